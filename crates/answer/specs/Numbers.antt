@@ -1,0 +1,23 @@
+-- Document 01's numbers: "a refusal returns its number alone".
+use Prim.Native.Nat.{ℕ}
+use Rattle.answer.specs.declared.Refusal.{Refusal}
+use Rattle.answer.specs.declared.Refusal.the-variants.{Size, Length, BadArchive, NoSuchPlace, PlaceEmpty, PlaceFilled, ZeroKeyVector, Unreadable, Malformed, ZeroInverse}
+use Rattle.answer.specs.declared.Outcome.{Outcome}
+use Rattle.answer.specs.declared.Outcome.the-variants.{Done, Refused}
+
+abbrev pub refusalNumber : Refusal → ℕ
+refusalNumber Size = 1
+refusalNumber Length = 2
+refusalNumber BadArchive = 3
+refusalNumber NoSuchPlace = 4
+refusalNumber PlaceEmpty = 5
+refusalNumber PlaceFilled = 6
+refusalNumber ZeroKeyVector = 7
+refusalNumber Unreadable = 8
+refusalNumber Malformed = 9
+refusalNumber ZeroInverse = 10
+
+-- 0 is no refusal's number: it says that the work is done
+abbrev pub outcomeNumber : Outcome → ℕ
+outcomeNumber Done = 0
+outcomeNumber (Refused r) = refusalNumber r

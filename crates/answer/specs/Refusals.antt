@@ -1,0 +1,21 @@
+-- The first refusal in document 01's order, and what a lent buffer holds after the call.
+use Prim.Native.Nat.{ℕ}
+use mathlib.Core.Bool.{Bool, true, false, not}
+use mathlib.Core.List.{List}
+use lib.Dec.{eqb}
+use Rattle.answer.specs.declared.Refusal.{Refusal}
+use Rattle.answer.specs.declared.Outcome.{Outcome}
+use Rattle.answer.specs.declared.Outcome.the-variants.{Done, Refused}
+
+-- refused by r where the test holds, else what follows: a chain of these, ended by Done, picks the first refusal
+unfoldable pub refuse : Bool → Refusal → Outcome → Outcome
+refuse true r next = Refused r
+refuse false r next = next
+
+-- "A refusal returns its number alone, and all lent memory keeps its bytes": the bytes before, or what the work writes
+unfoldable pub afterwards : Outcome → List ℕ → List ℕ → List ℕ
+afterwards Done before written = written
+afterwards (Refused r) before written = before
+
+abbrev pub differs : ℕ → ℕ → Bool
+differs a b = not (eqb a b)

@@ -1,0 +1,60 @@
+// What an operation answers: done, or the first refusal of document 01 that applies.
+ghost use mathlib.Core.Path.{_≡_};
+ghost use Rattle.answer.specs.Numbers.{refusalNumber, outcomeNumber};
+
+// The ten refusals, in the order of document 01's numbers, from 1.
+pub enum Refusal {
+    // 1: a size outside its range.
+    Size,
+    // 2: a buffer of wrong length.
+    Length,
+    // 3: a bad archive.
+    BadArchive,
+    // 4: no such node (document 01: box) or place.
+    NoSuchPlace,
+    // 5: a place that is named is empty.
+    PlaceEmpty,
+    // 6: a place that would be filled is filled.
+    PlaceFilled,
+    // 7: the first n-2 key elements are all zero.
+    ZeroKeyVector,
+    // 8: the filled rows do not determine the file.
+    Unreadable,
+    // 9: a malformed message, or fields out of rule.
+    Malformed,
+    // 10: the inverse of zero.
+    ZeroInverse,
+}
+
+pub enum Outcome {
+    Done,
+    Refused(Refusal),
+}
+
+// Document 01's number of a refusal.
+pub fn refusal_number(r: Refusal) -> u8
+    ensures { λ n. ⌜ n ≡ refusalNumber r ⌝ }
+{
+    match r {
+        Refusal::Size => 1,
+        Refusal::Length => 2,
+        Refusal::BadArchive => 3,
+        Refusal::NoSuchPlace => 4,
+        Refusal::PlaceEmpty => 5,
+        Refusal::PlaceFilled => 6,
+        Refusal::ZeroKeyVector => 7,
+        Refusal::Unreadable => 8,
+        Refusal::Malformed => 9,
+        Refusal::ZeroInverse => 10,
+    }
+}
+
+// 0 for done, else the refusal's number.
+pub fn number(o: Outcome) -> u8
+    ensures { λ n. ⌜ n ≡ outcomeNumber o ⌝ }
+{
+    match o {
+        Outcome::Done => 0,
+        Outcome::Refused(r) => refusal_number(r),
+    }
+}

@@ -1,0 +1,6 @@
+pub mod XorLaws
+pub mod SumLaws
+pub mod TimesLaws
+pub mod PowerLaws
+pub mod TableLaws
+pub mod InverseLaws

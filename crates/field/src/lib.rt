@@ -1,0 +1,81 @@
+// The field GF(2^8) of FIPS 197: products by a table of powers and its logarithms.
+mod constants;
+
+pub use constants::TablePair;
+pub use constants::tables;
+ghost use mathlib.Core.Path.{_≡_};
+ghost use Prim.Native.Nat.{_<_};
+ghost use Rattle.field.specs.Field.{times, power};
+ghost use Rattle.field.specs.Inverse.{inverted, invertedOutcome};
+ghost use Rattle.field.specs.Tables.{PowerTable, LogTable};
+use answer::Outcome;
+use answer::Refusal;
+
+// 03 to the k.
+fn exp(powers: &[u8; 255], k: usize) -> u8
+    requires { ⌜ PowerTable (now powers) ⌝ }
+    ensures { λ r. ⌜ r ≡ power 3 k ⌝ }
+{
+    powers[k % 255]
+}
+
+// The logarithm of a, where a is not zero.
+fn log(logs: &[u8; 256], a: u8) -> usize
+    requires { ⌜ LogTable (now logs) ⌝ }
+    ensures { λ r. ⌜ (r < 255) × (0 < a → power 3 r ≡ a) ⌝ }
+{
+    lists::widen(logs[lists::widen(a)])
+}
+
+// The product over lent tables, for loops.
+pub fn product(powers: &[u8; 255], logs: &[u8; 256], a: u8, b: u8) -> u8
+    requires { ⌜ PowerTable (now powers) × LogTable (now logs) ⌝ }
+    ensures { λ r. ⌜ r ≡ times a b ⌝ }
+{
+    if a == 0 {
+        return 0;
+    }
+    if b == 0 {
+        return 0;
+    }
+    exp(powers, log(logs, a) + log(logs, b))
+}
+
+// The product.
+pub fn multiply(a: u8, b: u8) -> u8
+    ensures { λ r. ⌜ r ≡ times a b ⌝ }
+{
+    let t = tables();
+    let powers = t.powers;
+    let logs = t.logs;
+    product(&powers, &logs, a, b)
+}
+
+// What the inverse of a byte is.
+pub enum Inverted {
+    Element(u8),
+    Zero,
+}
+
+// The inverse, or that the element is zero.
+pub fn inverse(a: u8) -> Inverted
+    ensures { λ r. ⌜ r ≡ inverted a ⌝ }
+{
+    if a == 0 {
+        return Inverted::Zero;
+    }
+    let t = tables();
+    let powers = t.powers;
+    let logs = t.logs;
+    Inverted::Element(exp(&powers, 255 - log(&logs, a)))
+}
+
+// Done for an element, the refusal 10 for zero.
+pub fn outcome(i: Inverted) -> Outcome
+    ensures { λ r. ⌜ r ≡ invertedOutcome i ⌝ }
+{
+    match i {
+        Inverted::Element(_) => Outcome::Done,
+        Inverted::Zero => Outcome::Refused(Refusal::ZeroInverse),
+    }
+}

@@ -1,0 +1,3 @@
+pub mod TabLaws
+pub mod OverLaws
+pub mod Tests
