@@ -1,13 +1,17 @@
 -- Document 01: "Products go through a table of the 255 powers of 03, each 03 times the one before, starting with 01, and its logarithms."
-use Prim.Native.Nat.{ℕ, _<_}
+use Prim.Native.Nat.{ℕ, _%_, _<_}
 use mathlib.Core.Path.{_≡_}
 use mathlib.Core.List.{List}
-use Rattle.lists.specs.Lists.{at}
+use Rattle.lists.specs.Lists.{at, tab}
 use Rattle.field.specs.Field.{power}
+
+-- 255 entries twice in a row: the sum of two logarithms is then an index
+unfoldable pub doubled : List ℕ → List ℕ
+doubled p = tab 510 (λ k. at p (k % 255))
 
 -- entry k is 03 to the k
 pub record PowerTable (t : List ℕ) : Type 0 where
-  pub power-of : (k : ℕ) → k < 255 → at t k ≡ power 3 k
+  pub power-of : (k : ℕ) → k < 510 → at t k ≡ power 3 k
 
 -- entry a is the logarithm of a to the base 03; that of 0 is some exponent
 pub record LogTable (t : List ℕ) : Type 0 where

@@ -1,5 +1,6 @@
 // The power and logarithm tables, as constants.
-ghost use Rattle.field.specs.Tables.{PowerTable, LogTable};
+ghost use mathlib.Core.Path.{_≡_};
+ghost use Rattle.field.specs.Tables.{doubled, PowerTable, LogTable};
 
 // The powers of 03, from the power 0 on.
 const POWERS: [u8; 255] = [
@@ -520,8 +521,20 @@ const LOGS: [u8; 256] = [
     7,
 ];
 
+// The powers twice in a row, so that the sum of two logarithms is an index.
+fn twice(powers: [u8; 255]) -> [u8; 510]
+    ensures { λ r. ⌜ r ≡ doubled powers ⌝ }
+{
+    let mut out = [0u8; 510];
+    for i in 0..255 {
+        out[i] = powers[i];
+        out[i + 255] = powers[i];
+    }
+    out
+}
+
 pub struct TablePair {
-    pub powers: [u8; 255],
+    pub powers: [u8; 510],
     pub logs: [u8; 256],
 }
 
@@ -530,7 +543,7 @@ pub fn tables() -> TablePair
     ensures { λ r. ⌜ PowerTable (r .powers) × LogTable (r .logs) ⌝ }
 {
     TablePair {
-        powers: POWERS,
+        powers: twice(POWERS),
         logs: LOGS,
     }
 }

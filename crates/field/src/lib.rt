@@ -11,12 +11,12 @@ ghost use Rattle.field.specs.Tables.{PowerTable, LogTable};
 use answer::Outcome;
 use answer::Refusal;
 
-// 03 to the k.
-fn exp(powers: &[u8; 255], k: usize) -> u8
-    requires { ⌜ PowerTable (now powers) ⌝ }
+// 03 to the k, for k up to the sum of two logarithms.
+fn exp(powers: &[u8; 510], k: usize) -> u8
+    requires { ⌜ PowerTable (now powers) × (k < 510) ⌝ }
     ensures { λ r. ⌜ r ≡ power 3 k ⌝ }
 {
-    powers[k % 255]
+    powers[k]
 }
 
 // The logarithm of a, where a is not zero.
@@ -28,7 +28,7 @@ fn log(logs: &[u8; 256], a: u8) -> usize
 }
 
 // The product over lent tables, for loops.
-pub fn product(powers: &[u8; 255], logs: &[u8; 256], a: u8, b: u8) -> u8
+pub fn product(powers: &[u8; 510], logs: &[u8; 256], a: u8, b: u8) -> u8
     requires { ⌜ PowerTable (now powers) × LogTable (now logs) ⌝ }
     ensures { λ r. ⌜ r ≡ times a b ⌝ }
 {

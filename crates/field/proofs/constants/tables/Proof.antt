@@ -1,13 +1,17 @@
+use borrow.Author.Needs.{needs}
 use Rattle.lists.proofs.Tests.{all}
 use Rattle.field.specs.Field.{sum, modulus, xtime, xtimes, times}
 use Rattle.field.proofs.TableLaws.{pass, tables-pass}
 use Rattle.field.proofs.constants.tables.Statement.{statement}
 use Rattle.field.proofs.constants.tables.Tie as tie
 
+twice-requires : tie.Need-twice-requires
+twice-requires c κs = search needs
+
 -- antt computes the test over the code's own tables
 returns : tie.Need-returns
 unfolding pass all times xtimes xtime modulus sum
-returns c = tables-pass _ _ tt
+returns c = tables-pass _ _ (c .twice .ensures) tt
 
 pub tables-spec : {M : Type 1} → statement M
-tables-spec = tie.close (tie.spec returns)
+tables-spec = tie.close (tie.spec twice-requires returns)

@@ -1,0 +1,124 @@
+/* The two inner loops beside plain scalar C in one process: nanoseconds a keystream byte and a product, and whether the results
+   agree. Each pair is timed in turn, ROUNDS times, and the best round of each counts. PAD bytes shift the code: short loops
+   run up to three times as long where they lie badly, on either side, so bench/run tries several places. */
+#include <stddef.h>
+#include <stdint.h>
+#include <stdio.h>
+#include <string.h>
+#include <time.h>
+
+uint8_t loops_product(const uint8_t *a, size_t a_len, const uint8_t *b, size_t b_len);
+uint8_t loops_draw(const uint8_t *key, const uint8_t *nonce, size_t n);
+
+#define TEXT(x) #x
+#define SKIP(n) __asm__(".text\n.skip " TEXT(n) "\n")
+SKIP(PAD);
+
+enum { ROUNDS = 7, VECTOR = 4096, REPEATS = 2048, BYTES = 1 << 22 };
+
+#define ROTL(x, k) (((x) << (k)) | ((x) >> (32 - (k))))
+#define QUARTER(a, b, c, d) \
+    a += b, d = ROTL(d ^ a, 16), c += d, b = ROTL(b ^ c, 12), a += b, d = ROTL(d ^ a, 8), c += d, b = ROTL(b ^ c, 7)
+
+static void block(const uint32_t in[16], uint8_t out[64]) {
+    uint32_t x[16];
+    memcpy(x, in, sizeof x);
+    for (int i = 0; i < 10; i++) {
+        QUARTER(x[0], x[4], x[8], x[12]);
+        QUARTER(x[1], x[5], x[9], x[13]);
+        QUARTER(x[2], x[6], x[10], x[14]);
+        QUARTER(x[3], x[7], x[11], x[15]);
+        QUARTER(x[0], x[5], x[10], x[15]);
+        QUARTER(x[1], x[6], x[11], x[12]);
+        QUARTER(x[2], x[7], x[8], x[13]);
+        QUARTER(x[3], x[4], x[9], x[14]);
+    }
+    for (int i = 0; i < 16; i++) {
+        uint32_t w = x[i] + in[i];
+        memcpy(out + 4 * i, &w, 4);
+    }
+}
+
+__attribute__((noipa)) static uint8_t c_draw(const uint8_t *key, const uint8_t *nonce, size_t n) {
+    uint32_t s[16] = {0x61707865, 0x3320646e, 0x79622d32, 0x6b206574};
+    uint8_t bytes[64], total = 0;
+    size_t at = 64;
+    memcpy(s + 4, key, 32);
+    memcpy(s + 13, nonce, 12);
+    for (size_t i = 0; i < n; i++) {
+        if (at == 64) {
+            block(s, bytes);
+            s[12]++;
+            at = 0;
+        }
+        total ^= bytes[at++];
+    }
+    return total;
+}
+
+static uint8_t powers[510], logs[256];
+
+static void make_tables(void) {
+    unsigned x = 1;
+    for (int i = 0; i < 255; i++) {
+        powers[i] = powers[i + 255] = (uint8_t)x;
+        logs[x] = (uint8_t)i;
+        x ^= x << 1;
+        if (x & 0x100) x ^= 0x11b;
+    }
+}
+
+static inline uint8_t c_multiply(uint8_t a, uint8_t b) {
+    if (a == 0 || b == 0) return 0;
+    return powers[logs[a] + logs[b]];
+}
+
+__attribute__((noipa)) static uint8_t c_product(const uint8_t *a, const uint8_t *b, size_t n) {
+    uint8_t total = 0;
+    for (size_t i = 0; i < n; i++) total ^= c_multiply(a[i], b[i]);
+    return total;
+}
+
+static double now(void) {
+    struct timespec t;
+    clock_gettime(CLOCK_MONOTONIC, &t);
+    return t.tv_sec * 1e9 + t.tv_nsec;
+}
+
+static void report(const char *what, double rattle, double c, double units, int same) {
+    printf("%s %.3f %.3f %s\n", what, rattle / units, c / units, same ? "equal" : "DIFFERENT");
+}
+
+int main(void) {
+    static uint8_t a[VECTOR], b[VECTOR];
+    uint8_t key[32], nonce[12] = {0, 0, 0, 9, 0, 0, 0, 0x4a};
+    double draw[2] = {1e30, 1e30}, product[2] = {1e30, 1e30};
+    int same_draw = 1, same_product = 1;
+    make_tables();
+    for (int i = 0; i < 32; i++) key[i] = (uint8_t)i;
+    for (int i = 0; i < VECTOR; i++) a[i] = (uint8_t)(i * 37 + 11), b[i] = (uint8_t)(i * i + 3 * i + 7);
+    for (int r = 0; r < ROUNDS; r++) {
+        double t0 = now();
+        uint8_t x = loops_draw(key, nonce, BYTES);
+        double t1 = now();
+        uint8_t y = c_draw(key, nonce, BYTES);
+        double t2 = now();
+        uint8_t p = 0, q = 0;
+        for (int k = 0; k < REPEATS; k++) a[k] ^= 1, p ^= loops_product(a, VECTOR, b, VECTOR);
+        double t3 = now();
+        for (int k = 0; k < REPEATS; k++) a[k] ^= 1;
+        double t4 = now();
+        for (int k = 0; k < REPEATS; k++) a[k] ^= 1, q ^= c_product(a, b, VECTOR);
+        double t5 = now();
+        for (int k = 0; k < REPEATS; k++) a[k] ^= 1;
+        same_draw &= x == y;
+        same_product &= p == q;
+        if (t1 - t0 < draw[0]) draw[0] = t1 - t0;
+        if (t2 - t1 < draw[1]) draw[1] = t2 - t1;
+        if (t3 - t2 < product[0]) product[0] = t3 - t2;
+        if (t5 - t4 < product[1]) product[1] = t5 - t4;
+    }
+    report("keystream-byte", draw[0], draw[1], BYTES, same_draw);
+    report("product", product[0], product[1], (double)VECTOR * REPEATS, same_product);
+    return 0;
+}

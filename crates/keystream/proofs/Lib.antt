@@ -1,0 +1,2 @@
+pub mod ChaChaLaws
+pub mod DrawLaws

@@ -1,0 +1,19 @@
+-- Block, document 01: "32-byte key, 32-bit block counter, 12-byte nonce, 64 bytes out"; "2, a buffer of wrong length".
+use Prim.Native.Nat.{ℕ}
+use mathlib.Core.List.{List}
+use lib.ListN.{length}
+use Rattle.answer.specs.declared.Outcome.{Outcome}
+use Rattle.answer.specs.declared.Outcome.the-variants.{Done}
+use Rattle.answer.specs.declared.Refusal.the-variants.{Length}
+use Rattle.answer.specs.Refusals.{refuse, afterwards, differs}
+use Rattle.keystream.specs.ChaCha.{blockOf}
+
+unfoldable pub blockAnswer : List ℕ → List ℕ → List ℕ → Outcome
+blockAnswer key nonce out =
+    refuse (differs (length key) 32) Length
+    (refuse (differs (length nonce) 12) Length
+    (refuse (differs (length out) 64) Length
+    Done))
+
+unfoldable pub blockOut : List ℕ → ℕ → List ℕ → List ℕ → List ℕ
+blockOut key counter nonce out = afterwards (blockAnswer key nonce out) out (blockOf key counter nonce)

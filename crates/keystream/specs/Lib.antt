@@ -1,0 +1,3 @@
+pub mod ChaCha
+pub mod Block
+pub mod Draws

@@ -1,0 +1,46 @@
+// The two inner loops that the benchmark measures, for C to call: proved callers of field and keystream.
+ghost use mathlib.Core.Path.{_≡_};
+ghost use Prim.Native.Nat.{min};
+ghost use lib.ListN.{length};
+ghost use Rattle.lists.specs.Lists.{at};
+ghost use Rattle.field.specs.Field.{sum, times};
+ghost use Rattle.keystream.specs.Draws.{byteAt};
+use keystream::Stream;
+
+fn shorter(a: usize, b: usize) -> usize
+    ensures { λ r. ⌜ r ≡ min a b ⌝ }
+{
+    if a < b { a } else { b }
+}
+
+// The product of two vectors: the sum of the products of their elements, as many as the shorter has.
+#[no_mangle]
+pub extern "C" fn loops_product(a: &[u8], b: &[u8]) -> u8
+    ensures { λ r. ⌜ r ≡ sum (min (length (now (a .entry))) (length (now (b .entry)))) (λ i. times (at (now (a .entry)) i) (at (now (b .entry)) i)) ⌝ }
+{
+    let t = field::tables();
+    let powers = t.powers;
+    let logs = t.logs;
+    let n = shorter(a.len(), b.len());
+    let mut total = 0u8;
+    for i in 0..n {
+        total = total ^ field::product(&powers, &logs, a[i], b[i]);
+    }
+    total
+}
+
+// The sum of the first n bytes of a stream.
+#[no_mangle]
+pub extern "C" fn loops_draw(key: &[u8; 32], nonce: &[u8; 12], n: usize) -> u8
+    ensures { λ r. ⌜ r ≡ sum n (byteAt (now (key .entry)) (now (nonce .entry))) ⌝ }
+{
+    let mut s = Stream::new(*key, *nonce);
+    let mut total = 0u8;
+    for _ in 0..n {
+        let d = s.next();
+        total = total ^ d.byte;
+        let t = d.stream;
+        s = t;
+    }
+    total
+}

@@ -1,0 +1,11 @@
+// Runs the vectors of RFC 8439 and FIPS 197, and document 01's worked values without a star, through the public functions.
+mod fips197;
+mod packing;
+mod report;
+mod rfc8439;
+
+fn main() {
+    rfc8439::run();
+    fips197::run();
+    packing::run();
+}
