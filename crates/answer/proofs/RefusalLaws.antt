@@ -1,13 +1,16 @@
 -- Laws of a chain of refusals. Assumes nothing.
-use mathlib.Core.Path.{_≡_, refl}
+use mathlib.Core.Path.{_≡_, refl, ap, _∙_}
 use mathlib.Core.Bool.{Bool, true, false}
-use mathlib.Core.List.{List}
-use Prim.Native.Nat.{ℕ}
-use borrow.Author.Tests.{eq-eqb, ne-eqb}
+use Prim.Native.Nat.{ℕ, _≤_}
+use native.Mathlib.Omega.{arith}
+use lib.Dec.{eqb}
+use borrow.Author.Tests.{eq-eqb, ne-eqb, eqb-true, not-false, ltb-false, le-ltb}
+use Rattle.lists.specs.Lists.{anyOf}
+use Rattle.lists.proofs.AnyLaws.{any-first, any-rest}
 use Rattle.answer.specs.declared.Refusal.{Refusal}
 use Rattle.answer.specs.declared.Outcome.{Outcome}
 use Rattle.answer.specs.declared.Outcome.the-variants.{Done, Refused}
-use Rattle.answer.specs.Refusals.{refuse, afterwards, differs}
+use Rattle.answer.specs.Refusals.{refuse, afterwards, differs, outside}
 
 -- a test that holds ends the chain, and one that fails hands it on
 pub refused : {b : Bool} (r : Refusal) (next : Outcome) → b ≡ true → refuse b r next ≡ Refused r
@@ -24,10 +27,44 @@ differs-same {a} {b} e = rw (eq-eqb a b e)
 pub differs-other : {a b : ℕ} → (a ≡ b → ⊥) → differs a b ≡ true
 differs-other {a} {b} e = rw (ne-eqb a b e)
 
-pub after-done : {o : Outcome} (s t : List ℕ) → o ≡ Done → afterwards o s t ≡ t
+pub after-done : {A : Type 0} {o : Outcome} (s t : A) → o ≡ Done → afterwards o s t ≡ t
 unfolding afterwards
 after-done s t e = rw e
 
-pub after-refused : {o : Outcome} {r : Refusal} (s t : List ℕ) → o ≡ Refused r → afterwards o s t ≡ s
+pub after-refused : {A : Type 0} {o : Outcome} {r : Refusal} (s t : A) → o ≡ Refused r → afterwards o s t ≡ s
 unfolding afterwards
 after-refused s t e = rw e
+
+-- what is known where nothing was refused
+pub accepted : (b : Bool) (r : Refusal) (next : Outcome) → refuse b r next ≡ Done → (b ≡ false) × (next ≡ Done)
+unfolding refuse
+accepted true r next e = let q : _≡_ {A = ℕ} 0 1 = cc in absurd (omega arith)
+accepted false r next e = (refl, e)
+
+-- two chains that agree as far as they go
+pub refuse-same : (b c : Bool) (r : Refusal) (x y : Outcome) → b ≡ c → (b ≡ false → x ≡ y) → refuse b r x ≡ refuse c r y
+unfolding refuse
+refuse-same b c r x y e h = go b h ∙ ap (λ (t : Bool). refuse t r y) e
+  where
+    go : (t : Bool) → (t ≡ false → x ≡ y) → refuse t r x ≡ refuse t r y
+    go true h = refl
+    go false h = h refl
+
+pub same : (x y : ℕ) → differs x y ≡ false → x ≡ y
+same x y e = eqb-true x y (not-false (eqb x y) e)
+
+-- x is in its range
+pub inside : (lo hi x : ℕ) → outside lo hi x ≡ false → (lo ≤ x) × (x ≤ hi)
+unfolding outside
+inside lo hi x e = (ltb-false x lo (any-first _ _ e), ltb-false hi x (any-first _ _ (any-rest _ _ e)))
+
+pub not-outside : (lo hi x : ℕ) → lo ≤ x → x ≤ hi → outside lo hi x ≡ false
+unfolding outside anyOf
+not-outside lo hi x a b = rw (le-ltb x lo a, le-ltb hi x b)
+
+-- one chain of tests has one answer
+pub never-both : {o : Outcome} {r : Refusal} → o ≡ Done → o ≡ Refused r → ⊥
+never-both p q = let x : _≡_ {A = ℕ} 0 1 = cc in omega arith
+
+pub same-refusal : {o : Outcome} {r r′ : Refusal} → o ≡ Refused r → o ≡ Refused r′ → r ≡ r′
+same-refusal p q = cc

@@ -1,8 +1,9 @@
 -- The first refusal in document 01's order, and what a lent buffer holds after the call.
 use Prim.Native.Nat.{ℕ}
 use mathlib.Core.Bool.{Bool, true, false, not}
-use mathlib.Core.List.{List}
-use lib.Dec.{eqb}
+use mathlib.Core.List.{[], _∷_}
+use lib.Dec.{eqb, ltb}
+use Rattle.lists.specs.Lists.{anyOf}
 use Rattle.answer.specs.declared.Refusal.{Refusal}
 use Rattle.answer.specs.declared.Outcome.{Outcome}
 use Rattle.answer.specs.declared.Outcome.the-variants.{Done, Refused}
@@ -13,9 +14,13 @@ refuse true r next = Refused r
 refuse false r next = next
 
 -- "A refusal returns its number alone, and all lent memory keeps its bytes": the bytes before, or what the work writes
-unfoldable pub afterwards : Outcome → List ℕ → List ℕ → List ℕ
+unfoldable pub afterwards : {A : Type 0} → Outcome → A → A → A
 afterwards Done before written = written
 afterwards (Refused r) before written = before
 
 abbrev pub differs : ℕ → ℕ → Bool
 differs a b = not (eqb a b)
+
+-- x is below lo or above hi
+unfoldable pub outside : ℕ → ℕ → ℕ → Bool
+outside lo hi x = anyOf (ltb x lo ∷ ltb hi x ∷ [])

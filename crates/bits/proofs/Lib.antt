@@ -1,3 +1,4 @@
 pub mod NumberLaws
 pub mod PackLaws
+pub mod AppendLaws
 pub mod WriteLaws

@@ -7,13 +7,13 @@ use Prim.Native.Nat.{ℕ, zero, suc, _+_, _-_, _%_, _<_}
 use native.Mathlib.Nat.{mod-eq-of-lt, mod-lt, not-suc-le-zero, eq-or-lt-of-le, le-of-suc-le-suc, eq-zero-or-pos}
 use native.Mathlib.Omega.{arith}
 use borrow.Author.Tests.{eq-eqb, ne-eqb}
-use lib.Dec.{T, eqb, eqb→eq, eqb-refl, lit<}
+use lib.Dec.{T, eqb, eqb→eq, lit<}
 use Rattle.lists.specs.Lists.{pick, at}
 use Rattle.lists.proofs.Tests.{all, all-at}
 use Rattle.field.specs.declared.Inverted.the-variants.{Element, Zero}
 use Rattle.field.specs.Field.{sum, modulus, xtime, xtimes, times, power, last, inverseOf}
 use Rattle.field.specs.Inverse.{inverted}
-use Rattle.field.proofs.TimesLaws.{times-lt, times-assoc, times-comm, times-left-comm, times-zero, times-mod-left, one-times-low}
+use Rattle.field.proofs.TimesLaws.{times-assoc, times-comm, times-zero, times-mod-left, one-times-low}
 use Rattle.field.proofs.PowerLaws.{power-lt, power-add}
 use Rattle.field.proofs.TableLaws.{power-turn}
 

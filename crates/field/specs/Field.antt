@@ -5,7 +5,7 @@ use lib.Dec.{eqb}
 use lib.Bits.{bitXor}
 use Rattle.lists.specs.Lists.{pick}
 
--- 4.1: "Addition is exclusive or"
+-- document 01: "Addition is exclusive or" (FIPS 197, 4.1)
 abbrev pub plus : ℕ → ℕ → ℕ
 plus a b = bitXor a b
 

@@ -6,11 +6,11 @@ use lib.Bits.{bitOr, bitXor}
 use Rattle.lists.specs.Lists.{at, tab}
 use Rattle.keystream.specs.declared.chacha.Four.{Four}
 
--- "addition modulo 2^32" (document 01: "words of 32 bits added with the carry out dropped")
+-- document 01: "words of 32 bits added with the carry out dropped"; the RFC: addition modulo 2^32
 abbrev pub add32 : ℕ → ℕ → ℕ
 add32 a b = (a + b) % 2 ^ 32
 
--- "a left rotation by k bits": the high k bits come in again below
+-- a k-bit left rotation: the high k bits come in again below
 abbrev pub rotl : ℕ → ℕ → ℕ
 rotl x k = bitOr ((x * 2 ^ k) % 2 ^ 32) (x / 2 ^ (32 - k))
 
@@ -63,7 +63,7 @@ unfoldable pub rounds : ℕ → List ℕ → List ℕ
 rounds zero s = s
 rounds (suc n) s = quartersTo 8 (rounds n s)
 
--- 2.3: "20 rounds, alternating column and diagonal", then "add the original input words to the output words"
+-- 2.3: 20 rounds, that is ten double rounds, then "we add the original input words to the output words"
 unfoldable pub blockWords : List ℕ → List ℕ
 blockWords w = tab 16 (λ i. add32 (at (rounds 10 w) i) (at w i))
 

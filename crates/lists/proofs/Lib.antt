@@ -1,3 +1,5 @@
 pub mod TabLaws
+pub mod PutLaws
 pub mod OverLaws
+pub mod AnyLaws
 pub mod Tests

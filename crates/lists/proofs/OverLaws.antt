@@ -1,9 +1,13 @@
 -- Laws of `over`. Assumes nothing.
 use Prim.Native.Nat.{ℕ, _+_, _-_, _<_, _≤_}
-use mathlib.Core.Path.{_≡_}
+use mathlib.Core.Path.{_≡_, refl, sym, ap, _∙_}
+use mathlib.Core.Bool.{Bool, true, false}
+use mathlib.Core.Logic.{⊎-elim}
 use native.Mathlib.Omega.{arith}
+use lib.Dec.{ltb}
 use borrow.Author.Tests.{lt-ltb, le-ltb}
-use Rattle.lists.specs.Lists.{over}
+use Rattle.lists.specs.Lists.{pick, over}
+use Rattle.lists.proofs.TabLaws.{order}
 
 module _ {A : Type 0} (from n : ℕ) (f g : ℕ → A) where
   pub over-in : (j : ℕ) → j < n → over from n f g (from + j) ≡ f j
@@ -12,6 +16,12 @@ module _ {A : Type 0} (from n : ℕ) (f g : ℕ → A) where
       let e : from + j - from ≡ j = omega arith in
       rw (le-ltb (from + j) from (omega arith), lt-ltb (from + j) (from + n) (omega arith), e)
 
+  -- the same, for an index in the range
+  pub over-within : (i : ℕ) → from ≤ i → i < from + n → over from n f g i ≡ f (i - from)
+  over-within i a b =
+      let e : i ≡ from + (i - from) = omega arith in
+      ap (over from n f g) e ∙ over-in (i - from) (omega arith)
+
   pub over-below : (i : ℕ) → i < from → over from n f g i ≡ g i
   unfolding over
   over-below i h = rw (lt-ltb i from h)
@@ -19,3 +29,26 @@ module _ {A : Type 0} (from n : ℕ) (f g : ℕ → A) where
   pub over-above : (i : ℕ) → from + n ≤ i → over from n f g i ≡ g i
   unfolding over
   over-above i h = rw (le-ltb i from (omega arith), le-ltb i (from + n) h)
+
+pub over-map : {A B : Type 0} (h : A → B) (from n : ℕ) (f g : ℕ → A) (i : ℕ)
+    → h (over from n f g i) ≡ over from n (λ j. h (f j)) (λ j. h (g j)) i
+unfolding over
+over-map h from n f g i = go (ltb i from) (ltb i (from + n))
+  where
+    go : (a b : Bool) → h (pick a (g i) (pick b (f (i - from)) (g i))) ≡ pick a (h (g i)) (pick b (h (f (i - from))) (h (g i)))
+    go true b = refl
+    go false true = refl
+    go false false = refl
+
+-- two that agree on the indices in question
+pub over-same : {A : Type 0} (from n : ℕ) (f f′ g g′ : ℕ → A) (i : ℕ) → ((j : ℕ) → j < n → f j ≡ f′ j) → g i ≡ g′ i
+    → over from n f g i ≡ over from n f′ g′ i
+over-same from n f f′ g g′ i hf hg =
+    ⊎-elim
+    (λ (l : i < from). over-below from n f g i l ∙ hg ∙ sym (over-below from n f′ g′ i l))
+    (λ (m : from ≤ i).
+    ⊎-elim
+    (λ (l : i < from + n). over-within from n f g i m l ∙ hf (i - from) (omega arith) ∙ sym (over-within from n f′ g′ i m l))
+    (λ (l : from + n ≤ i). over-above from n f g i l ∙ hg ∙ sym (over-above from n f′ g′ i l))
+    (order i (from + n)))
+    (order i from)

@@ -1,8 +1,8 @@
 -- Lists of numbers by index: what every layer's definitions are written with.
-use Prim.Native.Nat.{ℕ, zero, suc, _+_, _-_}
+use Prim.Native.Nat.{ℕ, zero, suc, _+_, _-_, _*_}
 use mathlib.Core.Bool.{Bool, true, false}
 use mathlib.Core.List.{List, [], _∷_, _++_}
-use lib.ListN.{getD}
+use lib.ListN.{getD, set}
 use lib.Dec.{ltb}
 
 -- a where the test holds, else b
@@ -22,3 +22,30 @@ tab (suc n) f = tab n f ++ (f n ∷ [])
 -- g, but f (counted from 0) at the n indices from `from` on
 unfoldable pub over : {A : Type 0} → ℕ → ℕ → (ℕ → A) → (ℕ → A) → ℕ → A
 over from n f g i = pick (ltb i from) (g i) (pick (ltb i (from + n)) (f (i - from)) (g i))
+
+-- n rows of m values each, row after row
+unfoldable pub flat : ℕ → ℕ → (ℕ → ℕ → ℕ) → List ℕ
+flat zero m f = []
+flat (suc n) m f = flat n m f ++ tab m (f n)
+
+-- d with f j at each index `from` + j, for j below n
+unfoldable pub put : ℕ → ℕ → (ℕ → ℕ) → List ℕ → List ℕ
+put zero from f d = d
+put (suc n) from f d = set (put n from f d) (from + n) (f n)
+
+-- n rows of m stores each: f t j stands at `from` + t * m + j
+unfoldable pub grid : ℕ → ℕ → ℕ → (ℕ → ℕ → ℕ) → List ℕ → List ℕ
+grid zero m from f d = d
+grid (suc n) m from f d = put m (from + n * m) (f n) (grid n m from f d)
+
+-- ---- tests
+
+-- some test of the list holds
+unfoldable pub anyOf : List Bool → Bool
+anyOf [] = false
+anyOf (t ∷ ts) = pick t true (anyOf ts)
+
+-- some index below n passes
+unfoldable pub anyBelow : ℕ → (ℕ → Bool) → Bool
+anyBelow zero p = false
+anyBelow (suc n) p = pick (p n) true (anyBelow n p)

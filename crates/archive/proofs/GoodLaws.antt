@@ -1,0 +1,24 @@
+-- What is known of an archive that is not bad. Assumes nothing.
+use Prim.Native.Nat.{ℕ}
+use mathlib.Core.Path.{_≡_}
+use mathlib.Core.Bool.{false}
+use mathlib.Core.List.{List}
+use native.Mathlib.Omega.{arith}
+use lib.ListN.{length, length-take, length-drop}
+use Rattle.lists.proofs.AnyLaws.{any-first, any-rest}
+use Rattle.answer.proofs.RefusalLaws.{same}
+use Rattle.archive.specs.Layout.{archiveLength, sizesOf, idOf, badFor, badArchive}
+use Rattle.archive.proofs.SizeLaws.{Ranged, ranged}
+
+module _ (s : List ℕ) (good : badArchive s ≡ false) where
+  pub good-sizes : Ranged (sizesOf s)
+  unfolding badFor
+  good-sizes = ranged (sizesOf s) (any-first _ _ (any-rest _ _ good))
+
+  pub good-length : length s ≡ archiveLength (sizesOf s)
+  unfolding badFor
+  good-length = same _ _ (any-first _ _ (any-rest _ _ (any-rest _ _ (any-rest _ _ (any-rest _ _ good)))))
+
+  pub good-id : length (idOf s) ≡ 8
+  unfolding idOf
+  good-id = simp (length-take, length-drop) (omega (arith, good-length))

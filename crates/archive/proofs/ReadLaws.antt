@@ -1,0 +1,141 @@
+-- Which places Read takes, and the file that solves for them, are fixed. Assumes nothing.
+use Prim.Native.Nat.{ℕ, zero, suc, _+_, _-_, _*_, _/_, _%_, _<_, _≤_}
+use mathlib.Core.Path.{_≡_, refl, sym, ap, ap₂, _∙_, subst}
+use mathlib.Core.Logic.{⊎-elim, _≢_}
+use mathlib.Core.Bool.{Bool, true, false}
+use mathlib.Core.List.{List}
+use native.Mathlib.Decide.{ℕ-discrete}
+use native.Mathlib.Nat.{div-add-mod', mod-lt, div-lt-iff-lt-mul, mul-le-mul-right, eq-or-lt-of-le, le-of-suc-le-suc}
+use native.Mathlib.Omega.{arith}
+use lib.Bits.{bitXor, xor-zero-r, xor-self, xor-lt}
+use lib.ListN.{length}
+use lib.Seq.{ext-getD}
+use Rattle.lists.specs.Lists.{pick, at}
+use Rattle.field.specs.Field.{plus, times}
+use Rattle.field.proofs.XorLaws.{xor-cancel}
+use Rattle.field.proofs.SumLaws.{sum-zero}
+use Rattle.field.proofs.TimesLaws.{times-zero}
+use Rattle.tag.specs.declared.Sizes.{Sizes}
+use Rattle.tag.specs.Vectors.{product}
+use Rattle.tag.proofs.VectorLaws.{mixed-vectors, product-same, product-right, product-zero, product-mixed}
+use Rattle.archive.specs.Layout.{placeCount, markAt, byteIn}
+use Rattle.archive.specs.Blocks.{fileLength}
+use Rattle.archive.specs.Read.{Bytes, howMany, rowIn, Blind, Combined, Takes, Solved}
+
+-- ---- the same for two that agree on the places there are
+
+pub howMany-same : (n : ℕ) (f g : ℕ → Bool) → ((i : ℕ) → i < n → f i ≡ g i) → howMany n f ≡ howMany n g
+unfolding howMany
+howMany-same zero f g h = refl
+howMany-same (suc n) f g h = rw (howMany-same n f g (λ i l. h i (omega arith)), h n (omega arith))
+
+pub blind-same : (z : Sizes) (f g : ℕ → Bool) (r r′ : ℕ → ℕ → ℕ) → ((k : ℕ) → k < placeCount z → f k ≡ g k)
+    → ((k i : ℕ) → k < placeCount z → i < z .m → r k i ≡ r′ k i) → Blind z f r → Blind z g r′
+blind-same z f g r r′ marks rows w =
+    record {
+      v = w .v;
+      bytes = w .bytes;
+      one = w .one;
+      one-there = w .one-there;
+      one-not = w .one-not;
+      orthogonal = λ k h e.
+          sym (product-same (z .m) (r k) (r′ k) (w .v) (λ i l. rows k i h l)) ∙ w .orthogonal k h (marks k h ∙ e);
+    }
+
+-- ---- the places taken
+
+abbrev Agree : (ℕ → Bool) → (ℕ → Bool) → ℕ → Type 0
+Agree taken taken′ k = (j : ℕ) → j < k → taken j ≡ taken′ j
+
+-- a combination uses only the places before
+combined-same : (z : Sizes) (s : List ℕ) (taken taken′ : ℕ → Bool) (k : ℕ) → Agree taken taken′ k → Combined z s taken k → Combined z s taken′ k
+combined-same z s taken taken′ k agree c =
+    (c .0, λ i h. c .1 i h ∙ mixed-vectors k (c .0) _ _ i (λ j l. ap (λ (b : Bool). pick b (rowIn z s j i) 0) (agree j l)))
+
+-- where two agree before k, one does not take k alone
+not-alone : (z : Sizes) (s : List ℕ) (taken taken′ : ℕ → Bool) → Takes z s taken → Takes z s taken′
+    → (k : ℕ) → k < placeCount z → Agree taken taken′ k → taken k ≡ true → taken′ k ≡ false → ⊥
+not-alone z s taken taken′ t t′ k h agree p q =
+    t .independent k h p (combined-same z s taken′ taken k (λ j l. sym (agree j l)) (t′ .every k h (t .filled k h p) q))
+
+module _ (z : Sizes) (s : List ℕ) (taken taken′ : ℕ → Bool) (t : Takes z s taken) (t′ : Takes z s taken′) where
+  agree-at : (k : ℕ) → k < placeCount z → Agree taken taken′ k → taken k ≡ taken′ k
+  agree-at k h agree = go (taken k) (taken′ k) refl refl
+    where
+      go : (x y : Bool) → taken k ≡ x → taken′ k ≡ y → x ≡ y
+      go true true p q = refl
+      go true false p q = absurd (not-alone z s taken taken′ t t′ k h agree p q)
+      go false true p q = absurd (not-alone z s taken′ taken t′ t k h (λ j l. sym (agree j l)) q p)
+      go false false p q = refl
+
+  agree-below : (k : ℕ) → k ≤ placeCount z → Agree taken taken′ k
+  agree-below zero h j l = absurd (omega arith)
+  agree-below (suc k) h j l =
+      ⊎-elim
+      (λ (e : j ≡ k). rw e (agree-at k h (agree-below k (omega arith))))
+      (λ (b : j < k). agree-below k (omega arith) j b)
+      (eq-or-lt-of-le (le-of-suc-le-suc l))
+
+  pub taken-same : (k : ℕ) → k < placeCount z → taken k ≡ taken′ k
+  taken-same = agree-below (placeCount z) (omega arith)
+
+-- ---- the solution
+
+equal : (a b : ℕ) → bitXor a b ≡ 0 → a ≡ b
+equal a b q = sym (xor-zero-r a) ∙ ap (bitXor a) (sym q) ∙ xor-cancel a b
+
+-- the bytes of a column
+column-low : (z : Sizes) (xs : List ℕ) → length xs ≡ fileLength z → Bytes xs
+    → (e i : ℕ) → e < z .n - 2 → i < z .m → at xs (i * (z .n - 2) + e) < 256
+column-low z xs q b e i he h = b (i * (z .n - 2) + e) (omega (arith, mul-le-mul-right (z .n - 2) h))
+
+module _ (z : Sizes) (s out file : List ℕ) (w : Solved z s out) (low : 3 ≤ z .n) (size : length file ≡ fileLength z) (bytes : Bytes file)
+    (fits : (k e : ℕ) → k < placeCount z → w .taken k ≡ true → e < z .n - 2
+    → product (z .m) (rowIn z s k) (λ i. at file (i * (z .n - 2) + e)) ≡ byteIn z s k e)
+    (readable : ¬ Blind z (markAt s) (rowIn z s)) where
+  -- what the two files differ by in column e: it is orthogonal to the rows taken, so to those filled, so it is zero
+  abbrev gap : ℕ → ℕ → ℕ
+  gap e i = plus (at out (i * (z .n - 2) + e)) (at file (i * (z .n - 2) + e))
+
+  gap-taken : (e : ℕ) → e < z .n - 2 → (k : ℕ) → k < placeCount z → w .taken k ≡ true → product (z .m) (rowIn z s k) (gap e) ≡ 0
+  gap-taken e he k h t = product-right (z .m) _ _ _ ∙ ap₂ plus (w .solves k e h t he) (fits k e h t he) ∙ xor-self (byteIn z s k e)
+
+  gap-part : (e : ℕ) → e < z .n - 2 → (k : ℕ) → k < placeCount z → product (z .m) (λ i. pick (w .taken k) (rowIn z s k i) 0) (gap e) ≡ 0
+  gap-part e he k h = go (w .taken k) refl
+    where
+      go : (x : Bool) → w .taken k ≡ x → product (z .m) (λ i. pick x (rowIn z s k i) 0) (gap e) ≡ 0
+      go true q = gap-taken e he k h q
+      go false q = product-zero (z .m) (gap e)
+
+  gap-filled : (e : ℕ) → e < z .n - 2 → (k : ℕ) → k < placeCount z → markAt s k ≡ true → product (z .m) (rowIn z s k) (gap e) ≡ 0
+  gap-filled e he k h f = go (w .taken k) refl
+    where
+      go : (x : Bool) → w .taken k ≡ x → product (z .m) (rowIn z s k) (gap e) ≡ 0
+      go true q = gap-taken e he k h q
+      go false q =
+          let c : Combined z s (w .taken) k = w .takes .every k h f q in
+          product-same (z .m) _ _ (gap e) (c .1) ∙ product-mixed (z .m) k (c .0) _ (gap e)
+          ∙ sum-zero k _ (λ j l. ap (times (c .0 j)) (gap-part e he j (omega arith)) ∙ times-zero (c .0 j))
+
+  gap-blind : (e : ℕ) → e < z .n - 2 → (i : ℕ) → i < z .m → gap e i ≢ 0 → Blind z (markAt s) (rowIn z s)
+  gap-blind e he i h q =
+      record {
+        v = gap e;
+        bytes = λ j l. xor-lt 8 _ _ (column-low z out (w .size) (w .bytes) e j he l) (column-low z file size bytes e j he l);
+        one = i;
+        one-there = h;
+        one-not = q;
+        orthogonal = gap-filled e he;
+      }
+
+  gap-zero : (e : ℕ) → e < z .n - 2 → (i : ℕ) → i < z .m → gap e i ≡ 0
+  gap-zero e he i h = elim (ℕ-discrete (gap e i) 0) [ yes q ↦ q | no q ↦ absurd (readable (gap-blind e he i h q)) ]
+
+  pub solution-only : out ≡ file
+  solution-only =
+      ext-getD 0 out file (w .size ∙ sym size) (λ i h.
+      let d : ℕ = z .n - 2 in
+      let pos : 0 < d = omega arith in
+      let hi : i < z .m * d = omega (arith, w .size) in
+      subst (λ (x : ℕ). at out x ≡ at file x) (div-add-mod' i d)
+      (equal _ _ (gap-zero (i % d) (mod-lt i pos) (i / d) (div-lt-iff-lt-mul {k = d} pos .1 hi))))

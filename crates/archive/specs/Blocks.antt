@@ -1,0 +1,33 @@
+-- Source blocks, and the record of a coded block.
+use Prim.Native.Nat.{ℕ, _+_, _-_, _*_}
+use mathlib.Core.List.{List}
+use lib.Dec.{eqb, ltb}
+use Rattle.lists.specs.Lists.{pick, at}
+use Rattle.bits.specs.Fields.{bit}
+use Rattle.tag.specs.declared.Sizes.{Sizes}
+use Rattle.tag.specs.Vectors.{mixed}
+use Rattle.tag.specs.KeyVector.{withTag}
+use Rattle.archive.specs.Layout.{blockLength}
+
+-- "The file is exactly m(n−2) bytes, the padding 2m"
+abbrev pub fileLength : Sizes → ℕ
+fileLength z = z .m * (z .n - 2)
+
+abbrev pub paddingLength : Sizes → ℕ
+paddingLength z = 2 * z .m
+
+-- "Source block i, from 1, is the file's i-th n−2 bytes, the padding's i-th two, then m elements, all zero but a one at i":
+-- element e of block i, both counted from 0
+unfoldable pub source : Sizes → List ℕ → List ℕ → ℕ → ℕ → ℕ
+source z file padding i e =
+    pick (ltb e (z .n - 2)) (at file (i * (z .n - 2) + e))
+    (pick (ltb e (z .n)) (at padding (i * 2 + (e - (z .n - 2))))
+    (bit (eqb (e - z .n) i)))
+
+-- "Source blocks combined by a row are the sum of row element i times source block i"
+unfoldable pub coded : Sizes → List ℕ → List ℕ → (ℕ → ℕ) → ℕ → ℕ
+coded z file padding row = mixed (z .m) row (source z file padding)
+
+-- that block, then its tag
+unfoldable pub codedRecord : Sizes → (ℕ → ℕ) → List ℕ → List ℕ → (ℕ → ℕ) → ℕ → ℕ
+codedRecord z vector file padding row = withTag (blockLength z) vector (coded z file padding row)

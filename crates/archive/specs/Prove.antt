@@ -1,0 +1,50 @@
+-- Prove "takes archive, mask key, auxiliary elements, seed and challenge, and writes the response for the blocks and tags of the named
+-- places, combined by the challenge, with the mask added to the first n−2 elements and the mask sum made from the auxiliary elements
+-- lent. 3; 9, malformed challenge; 2, a length; 4, box or a place; 5, a named place empty."
+use Prim.Native.Nat.{ℕ, _-_}
+use mathlib.Core.Bool.{Bool, not}
+use mathlib.Core.List.{List, [], _∷_}
+use lib.ListN.{length}
+use Rattle.lists.specs.Lists.{at, anyOf, anyBelow}
+use Rattle.answer.specs.declared.Outcome.{Outcome}
+use Rattle.answer.specs.declared.Outcome.the-variants.{Done}
+use Rattle.answer.specs.declared.Refusal.the-variants.{Length, BadArchive, NoSuchPlace, PlaceEmpty, Malformed}
+use Rattle.answer.specs.Refusals.{refuse, afterwards, differs}
+use Rattle.tag.specs.declared.Sizes.{Sizes}
+use Rattle.tag.specs.Vectors.{mixed}
+use Rattle.mask.specs.Masks.{maskRow, maskCoefficient, mask, maskSum}
+use Rattle.mask.specs.Response.{responseLength, responseBytes}
+use Rattle.audit.specs.Challenge.{Challenge, challengeOf, malformedChallenge}
+use Rattle.audit.specs.Verdict.{notThere}
+use Rattle.archive.specs.Layout.{blockLength, placeNumber, sizesOf, idOf, filledIn, byteIn, badArchive}
+
+-- the refusals once the header and the challenge are read
+unfoldable pub proveFor : Sizes → (ℕ → ℕ → Bool) → List ℕ → List ℕ → List ℕ → Challenge → List ℕ → Outcome
+proveFor z filled maskKey elements seed c out =
+    refuse (anyOf (differs (length maskKey) 32 ∷ differs (length elements) (z .n - 1) ∷ differs (length seed) 11 ∷ differs (length out) (responseLength (z .n)) ∷ [])) Length
+    (refuse (notThere z c) NoSuchPlace
+    (refuse (anyBelow (length (c .places)) (λ j. not (filled (c .node) (at (c .places) j)))) PlaceEmpty
+    Done))
+
+unfoldable pub proveAnswer : List ℕ → List ℕ → List ℕ → List ℕ → List ℕ → List ℕ → Outcome
+proveAnswer s maskKey elements seed message out =
+    refuse (badArchive s) BadArchive
+    (refuse (malformedChallenge message) Malformed
+    (proveFor (sizesOf s) (filledIn (sizesOf s) s) maskKey elements seed (challengeOf message) out))
+
+-- the response for a combined block and its tag
+unfoldable pub responseFor : ℕ → List ℕ → List ℕ → List ℕ → List ℕ → ℕ → (ℕ → ℕ) → ℕ → List ℕ
+responseFor n id maskKey elements seed node block tag =
+    responseBytes n node block tag (mask n (maskCoefficient maskKey seed) (maskRow maskKey id)) seed (maskSum n (maskCoefficient maskKey seed) elements)
+
+-- byte e of the named places' records, combined by the challenge
+unfoldable pub namedByte : Sizes → List ℕ → Challenge → ℕ → ℕ
+namedByte z s c e = mixed (length (c .places)) (at (c .coefficients)) (λ j. byteIn z s (placeNumber z (c .node) (at (c .places) j))) e
+
+unfoldable pub provedFor : Sizes → List ℕ → List ℕ → List ℕ → List ℕ → List ℕ → Challenge → List ℕ
+provedFor z id s maskKey elements seed c =
+    responseFor (z .n) id maskKey elements seed (c .node) (namedByte z s c) (namedByte z s c (blockLength z))
+
+unfoldable pub proveOut : List ℕ → List ℕ → List ℕ → List ℕ → List ℕ → List ℕ → List ℕ
+proveOut s maskKey elements seed message out =
+    afterwards (proveAnswer s maskKey elements seed message out) out (provedFor (sizesOf s) (idOf s) s maskKey elements seed (challengeOf message))

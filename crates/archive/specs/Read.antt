@@ -1,0 +1,91 @@
+-- Read, a relation between the bytes lent, the answer and the bytes afterwards: it leaves free just what document 01 does.
+use Prim.Native.Nat.{ℕ, zero, suc, _+_, _-_, _*_, _<_, _≤_}
+use mathlib.Core.Path.{_≡_}
+use mathlib.Core.Logic.{_⊎_, _≢_}
+use mathlib.Core.Bool.{Bool, true, false}
+use mathlib.Core.List.{List}
+use lib.ListN.{length}
+use lib.Dec.{ltb}
+use Rattle.lists.specs.Lists.{pick, at}
+use Rattle.answer.specs.declared.Outcome.{Outcome}
+use Rattle.answer.specs.declared.Outcome.the-variants.{Done}
+use Rattle.answer.specs.declared.Outcome.the-variants.{Refused as RefusedOutcome}
+use Rattle.answer.specs.declared.Refusal.the-variants.{Length, BadArchive, Unreadable}
+use Rattle.answer.specs.Refusals.{refuse, differs}
+use Rattle.bits.specs.Fields.{bit}
+use Rattle.tag.specs.declared.Sizes.{Sizes}
+use Rattle.tag.specs.Vectors.{product, mixed}
+use Rattle.archive.specs.Layout.{placeCount, sizesOf, markAt, byteIn, badArchive}
+use Rattle.archive.specs.Blocks.{fileLength}
+use Rattle.archive.specs.declared.Counted.{Counted}
+use Rattle.archive.specs.declared.Counted.the-variants.{Count, Refused}
+
+-- every element is a byte
+abbrev pub Bytes : List ℕ → Type 0
+Bytes xs = (i : ℕ) → i < length xs → at xs i < 256
+
+-- how many indices below n pass
+unfoldable pub howMany : ℕ → (ℕ → Bool) → ℕ
+howMany zero p = 0
+howMany (suc n) p = howMany n p + bit (p n)
+
+-- element i of the row of place number k: "A place's row here is the last m elements of its stored block"
+abbrev pub rowIn : Sizes → List ℕ → ℕ → ℕ → ℕ
+rowIn z s k i = byteIn z s k (z .n + i)
+
+-- "some non-zero vector of m elements is orthogonal to every" row of the places, by number, that are named; its elements are bytes
+pub record Blind (z : Sizes) (named : ℕ → Bool) (row : ℕ → ℕ → ℕ) : Type 0 where
+  pub v : ℕ → ℕ
+  pub bytes : (i : ℕ) → i < z .m → v i < 256
+  pub one : ℕ
+  pub one-there : one < z .m
+  pub one-not : v one ≢ 0
+  pub orthogonal : (k : ℕ) → k < placeCount z → named k ≡ true → product (z .m) (row k) v ≡ 0
+
+-- ---- which places are taken: "Going by box, then place, it takes each filled place whose row is independent of those taken"
+
+-- row k is a combination of the taken rows before it
+abbrev pub Combined : Sizes → List ℕ → (ℕ → Bool) → ℕ → Type 0
+Combined z s taken k =
+    (c : ℕ → ℕ) × ((i : ℕ) → i < z .m → rowIn z s k i ≡ mixed k c (λ j e. pick (taken j) (rowIn z s j e) 0) i)
+
+pub record Takes (z : Sizes) (s : List ℕ) (taken : ℕ → Bool) : Type 0 where
+  pub filled : (k : ℕ) → k < placeCount z → taken k ≡ true → markAt s k ≡ true
+  pub independent : (k : ℕ) → k < placeCount z → taken k ≡ true → ¬ Combined z s taken k
+  pub every : (k : ℕ) → k < placeCount z → markAt s k ≡ true → taken k ≡ false → Combined z s taken k
+
+-- "and solves for the m blocks": of which the file is the first n−2 columns, block after block
+pub record Solved (z : Sizes) (s file : List ℕ) : Type 0 where
+  pub taken : ℕ → Bool
+  pub takes : Takes z s taken
+  pub size : length file ≡ fileLength z
+  pub bytes : Bytes file
+  pub solves : (k e : ℕ) → k < placeCount z → taken k ≡ true → e < z .n - 2
+      → product (z .m) (rowIn z s k) (λ i. at file (i * (z .n - 2) + e)) ≡ byteIn z s k e
+
+-- ---- the number of filled places consulted: "free, but at least m, at most all, and the first so many filled places alone must suffice"
+
+-- place k is one of the first `count` filled places
+abbrev pub among : ℕ → (ℕ → Bool) → ℕ → Bool
+among count filled k = pick (filled k) (ltb (howMany k filled) count) false
+
+pub record Enough (z : Sizes) (filled : ℕ → Bool) (row : ℕ → ℕ → ℕ) (count : ℕ) : Type 0 where
+  pub least : z .m ≤ count
+  pub most : count ≤ howMany (placeCount z) filled
+  pub suffice : ¬ Blind z (among count filled) row
+
+-- ---- "3; 2, output length; 8, some non-zero vector of m elements is orthogonal to every filled row"
+
+abbrev pub readBefore : Sizes → List ℕ → List ℕ → Outcome
+readBefore z s out = refuse (badArchive s) BadArchive (refuse (differs (length out) (fileLength z)) Length Done)
+
+-- refused: nothing is written; otherwise the number and the file
+abbrev pub ReadFor : Sizes → List ℕ → List ℕ → Counted → List ℕ → Type 0
+ReadFor z s out (Refused r) written =
+    (written ≡ out)
+    × ((readBefore z s out ≡ RefusedOutcome r) ⊎ ((readBefore z s out ≡ Done) × (r ≡ Unreadable) × Blind z (markAt s) (rowIn z s)))
+ReadFor z s out (Count count) written =
+    (readBefore z s out ≡ Done) × (¬ Blind z (markAt s) (rowIn z s)) × Solved z s written × Enough z (markAt s) (rowIn z s) count
+
+abbrev pub ReadAllows : List ℕ → List ℕ → Counted → List ℕ → Type 0
+ReadAllows s out answer written = ReadFor (sizesOf s) s out answer written

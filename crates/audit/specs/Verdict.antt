@@ -1,0 +1,65 @@
+-- Verdict "takes tag key, id, n, m, M, N, the box's M rows, challenge and response, and says accept or reject. 1; 9, malformed challenge;
+-- 2, a length; 4, the box not below N or a place not below M; 9, response first byte not as under Messages."
+use Prim.Native.Nat.{ℕ, _+_, _-_, _*_}
+use mathlib.Core.Bool.{Bool}
+use mathlib.Core.List.{List, [], _∷_}
+use lib.ListN.{length}
+use lib.Dec.{eqb, ltb, leb}
+use Rattle.lists.specs.Lists.{pick, at, anyOf, anyBelow}
+use Rattle.answer.specs.declared.Outcome.{Outcome}
+use Rattle.answer.specs.declared.Outcome.the-variants.{Done}
+use Rattle.answer.specs.declared.Outcome.the-variants.{Refused as RefusedOutcome}
+use Rattle.answer.specs.declared.Refusal.the-variants.{Size, Length, NoSuchPlace, Malformed}
+use Rattle.answer.specs.Numbers.{refusalNumber}
+use Rattle.answer.specs.Refusals.{refuse, differs}
+use Rattle.field.specs.Field.{plus}
+use Rattle.tag.specs.declared.Sizes.{Sizes}
+use Rattle.tag.specs.Sizes.{sizesOutside}
+use Rattle.tag.specs.Vectors.{product, mixed}
+use Rattle.tag.specs.KeyVector.{keyVector}
+use Rattle.mask.specs.Response.{responseLength, responseHead, dataIn, sumIn, tagIn}
+use Rattle.audit.specs.Challenge.{Challenge, challengeOf, malformedChallenge}
+use Rattle.audit.specs.declared.Judgement.{Judgement}
+use Rattle.audit.specs.declared.Judgement.the-variants.{Accepted, Rejected, Refused}
+
+-- the number of each case: document 01 gives none to accept and reject; here 0 and 255
+abbrev pub judgementNumber : Judgement → ℕ
+judgementNumber Accepted = 0
+judgementNumber Rejected = 255
+judgementNumber (Refused r) = refusalNumber r
+
+-- "the box not below N or a place not below M"
+abbrev pub notThere : Sizes → Challenge → Bool
+notThere z c = anyOf (leb (z .nodes) (c .node) ∷ anyBelow (length (c .places)) (λ j. leb (z .places) (at (c .places) j)) ∷ [])
+
+-- the refusals, once the challenge is read
+unfoldable pub verdictFor : Sizes → List ℕ → List ℕ → List ℕ → Challenge → Bool → List ℕ → Outcome
+verdictFor z tagKey id rows c malformed response =
+    refuse (sizesOutside z) Size
+    (refuse malformed Malformed
+    (refuse (anyOf (differs (length tagKey) 32 ∷ differs (length id) 8 ∷ differs (length rows) (z .places * z .m) ∷ differs (length response) (responseLength (z .n)) ∷ [])) Length
+    (refuse (notThere z c) NoSuchPlace
+    (refuse (differs (at response 0) (at (responseHead (c .node)) 0)) Malformed
+    Done))))
+
+-- "It combines the rows of the named places by the challenge (the other rows don't count)"; row p stands at p·m
+unfoldable pub namedRow : Sizes → List ℕ → Challenge → ℕ → ℕ
+namedRow z rows c i = mixed (length (c .places)) (at (c .coefficients)) (λ j e. at rows (at (c .places) j * z .m + e)) i
+
+-- "appends the result to the n data elements"
+unfoldable pub appended : ℕ → List ℕ → (ℕ → ℕ) → ℕ → ℕ
+appended n response row e = pick (ltb e n) (dataIn n response e) (row (e - n))
+
+-- "accepts exactly when their product with the key vector equals tag plus mask sum": over any key vector and combined row
+unfoldable pub accepts : Sizes → (ℕ → ℕ) → (ℕ → ℕ) → List ℕ → Bool
+accepts z vector row response =
+    eqb (product (z .n + z .m) (appended (z .n) response row) vector) (plus (tagIn (z .n) response) (sumIn (z .n) response))
+
+unfoldable pub judgement : Outcome → Bool → Judgement
+judgement Done accepted = pick accepted Accepted Rejected
+judgement (RefusedOutcome r) accepted = Refused r
+
+unfoldable pub verdictOf : List ℕ → List ℕ → Sizes → List ℕ → List ℕ → List ℕ → Judgement
+verdictOf tagKey id z rows message response =
+    judgement (verdictFor z tagKey id rows (challengeOf message) (malformedChallenge message) response)
+    (accepts z (keyVector tagKey id) (namedRow z rows (challengeOf message)) response)

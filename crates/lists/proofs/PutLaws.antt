@@ -1,0 +1,92 @@
+-- Laws of stores in a row (`put`), rows of stores (`grid`) and rows of values (`flat`). Assumes nothing.
+use Prim.Native.Nat.{ℕ, zero, suc, _+_, _*_, _<_, _≤_}
+use mathlib.Core.Path.{_≡_, refl, _∙_}
+use mathlib.Core.List.{List, _++_}
+use mathlib.Core.Logic.{⊎-elim}
+use native.Mathlib.Omega.{arith}
+use native.Mathlib.Nat.{eq-or-lt-of-le, mul-le-mul-right}
+use lib.ListN.{length, length-set, length-append, List·getD-append}
+use lib.Seq.{getD-set-same, getD-set-other, getD-append-add}
+use Rattle.lists.specs.Lists.{at, tab, flat, put, grid}
+use Rattle.lists.proofs.TabLaws.{length-tab, tab-at, tab-same}
+
+pub length-put : (n from : ℕ) (f : ℕ → ℕ) (d : List ℕ) → length (put n from f d) ≡ length d
+unfolding put
+length-put zero from f d = refl
+length-put (suc n) from f d = length-set (put n from f d) (from + n) (f n) ∙ length-put n from f d
+
+pub put-below : (n from : ℕ) (f : ℕ → ℕ) (d : List ℕ) (k : ℕ) → k < from → at (put n from f d) k ≡ at d k
+unfolding put
+put-below zero from f d k h = refl
+put-below (suc n) from f d k h =
+    getD-set-other (put n from f d) (from + n) k (f n) 0 (λ e. omega arith) ∙ put-below n from f d k h
+
+pub put-above : (n from : ℕ) (f : ℕ → ℕ) (d : List ℕ) (k : ℕ) → from + n ≤ k → at (put n from f d) k ≡ at d k
+unfolding put
+put-above zero from f d k h = refl
+put-above (suc n) from f d k h =
+    getD-set-other (put n from f d) (from + n) k (f n) 0 (λ e. omega arith) ∙ put-above n from f d k (omega arith)
+
+pub put-at : (n from : ℕ) (f : ℕ → ℕ) (d : List ℕ) (j : ℕ) → j < n → from + n ≤ length d → at (put n from f d) (from + j) ≡ f j
+unfolding put
+put-at zero from f d j h r = absurd (omega arith)
+put-at (suc n) from f d j h r =
+    ⊎-elim
+    (λ (e : j ≡ n). rw e (getD-set-same (put n from f d) (from + n) (f n) 0 (omega (arith, length-put n from f d))))
+    (λ (l : j < n). getD-set-other (put n from f d) (from + n) (from + j) (f n) 0 (λ e. omega arith) ∙ put-at n from f d j l (omega arith))
+    (eq-or-lt-of-le {n = j} {m = n} (omega arith))
+
+pub length-grid : (n m from : ℕ) (f : ℕ → ℕ → ℕ) (d : List ℕ) → length (grid n m from f d) ≡ length d
+unfolding grid
+length-grid zero m from f d = refl
+length-grid (suc n) m from f d = length-put m (from + n * m) (f n) (grid n m from f d) ∙ length-grid n m from f d
+
+pub grid-below : (n m from : ℕ) (f : ℕ → ℕ → ℕ) (d : List ℕ) (k : ℕ) → k < from → at (grid n m from f d) k ≡ at d k
+unfolding grid
+grid-below zero m from f d k h = refl
+grid-below (suc n) m from f d k h =
+    put-below m (from + n * m) (f n) (grid n m from f d) k (omega arith) ∙ grid-below n m from f d k h
+
+pub grid-above : (n m from : ℕ) (f : ℕ → ℕ → ℕ) (d : List ℕ) (k : ℕ) → from + n * m ≤ k → at (grid n m from f d) k ≡ at d k
+unfolding grid
+grid-above zero m from f d k h = refl
+grid-above (suc n) m from f d k h =
+    put-above m (from + n * m) (f n) (grid n m from f d) k (omega arith) ∙ grid-above n m from f d k (omega arith)
+
+pub grid-at : (n m from : ℕ) (f : ℕ → ℕ → ℕ) (d : List ℕ) (t j : ℕ) → t < n → j < m → from + n * m ≤ length d
+    → at (grid n m from f d) (from + t * m + j) ≡ f t j
+unfolding grid
+grid-at zero m from f d t j h hj r = absurd (omega arith)
+grid-at (suc n) m from f d t j h hj r =
+    ⊎-elim
+    (λ (e : t ≡ n). rw e (put-at m (from + n * m) (f n) (grid n m from f d) j hj (omega (arith, length-grid n m from f d))))
+    (λ (l : t < n).
+    put-below m (from + n * m) (f n) (grid n m from f d) (from + t * m + j) (omega (arith, mul-le-mul-right m l))
+    ∙ grid-at n m from f d t j l hj (omega arith))
+    (eq-or-lt-of-le {n = t} {m = n} (omega arith))
+
+-- past the first list
+pub skip : (a b : List ℕ) (n i : ℕ) → length a ≡ n → at (a ++ b) (n + i) ≡ at b i
+skip a b n i e = rw (← e) (getD-append-add a b i 0)
+
+pub length-flat : (n m : ℕ) (f : ℕ → ℕ → ℕ) → length (flat n m f) ≡ n * m
+unfolding flat
+length-flat zero m f = omega arith
+length-flat (suc n) m f = rw (length-append, length-flat n m f, length-tab) (omega arith)
+
+pub flat-at : (n m : ℕ) (f : ℕ → ℕ → ℕ) (k p : ℕ) → k < n → p < m → at (flat n m f) (k * m + p) ≡ f k p
+unfolding flat
+flat-at zero m f k p h hp = absurd (omega arith)
+flat-at (suc n) m f k p h hp =
+    ⊎-elim
+    (λ (e : k ≡ n). rw e (skip (flat n m f) (tab m (f n)) (n * m) p (length-flat n m f) ∙ tab-at m (f n) p hp))
+    (λ (l : k < n).
+    List·getD-append (flat n m f) (tab m (f n)) 0 (k * m + p) (rw length-flat (omega (arith, mul-le-mul-right m l)))
+    ∙ flat-at n m f k p l hp)
+    (eq-or-lt-of-le {n = k} {m = n} (omega arith))
+
+pub flat-same : (n m : ℕ) (f g : ℕ → ℕ → ℕ) → ((k p : ℕ) → k < n → p < m → f k p ≡ g k p) → flat n m f ≡ flat n m g
+unfolding flat
+flat-same zero m f g h = refl
+flat-same (suc n) m f g h =
+    rw (flat-same n m f g (λ k p l hp. h k p (omega arith) hp), tab-same m (f n) (g n) (λ p hp. h n p (omega arith) hp))

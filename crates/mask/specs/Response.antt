@@ -1,0 +1,35 @@
+-- Document 01, Messages: "Response, n+14 bytes: kind 2 in 4 bits, the challenge's box in 3, one zero bit; n−2 masked bytes; seed;
+-- mask sum; elements n−1 and n in clear; tag." Elements count from 0 here, so those in clear are n - 2 and n - 1.
+use Prim.Native.Nat.{ℕ, _+_, _-_}
+use mathlib.Core.List.{List, [], _∷_, _++_}
+use lib.ListN.{take, drop}
+use lib.Dec.{ltb}
+use Rattle.lists.specs.Lists.{pick, at, tab}
+use Rattle.field.specs.Field.{plus}
+use Rattle.bits.specs.Fields.{_wide_, pack}
+
+abbrev pub responseLength : ℕ → ℕ
+responseLength n = n + 14
+
+-- its first byte, for a node (document 01: box)
+abbrev pub responseHead : ℕ → List ℕ
+responseHead node = pack ((4 wide 2) ∷ (3 wide node) ∷ (1 wide 0) ∷ [])
+
+unfoldable pub responseBytes : ℕ → ℕ → (ℕ → ℕ) → ℕ → (ℕ → ℕ) → List ℕ → ℕ → List ℕ
+responseBytes n node block tag hidden seed total =
+    responseHead node ++ (tab (n - 2) (λ e. plus (block e) (hidden e)) ++ (seed ++ (total ∷ block (n - 2) ∷ block (n - 1) ∷ tag ∷ [])))
+
+-- ---- its parts
+
+-- the n data elements: "masked bytes, then the two in clear"
+unfoldable pub dataIn : ℕ → List ℕ → ℕ → ℕ
+dataIn n response e = pick (ltb e (n - 2)) (at response (1 + e)) (at response (13 + e))
+
+unfoldable pub seedIn : ℕ → List ℕ → List ℕ
+seedIn n response = take 11 (drop (n - 1) response)
+
+abbrev pub sumIn : ℕ → List ℕ → ℕ
+sumIn n response = at response (n + 10)
+
+abbrev pub tagIn : ℕ → List ℕ → ℕ
+tagIn n response = at response (n + 13)

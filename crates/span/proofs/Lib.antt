@@ -1,0 +1,13 @@
+pub mod TableLaws
+pub mod ImageLaws
+pub mod RunLaws
+pub mod AuditLaws
+pub mod FreeLaws
+pub mod DemandLaws
+pub mod Unmask
+pub mod ReadFixed
+pub mod InventoryFixed
+pub mod Life
+pub mod Worked
+pub mod Tries
+pub mod Hollow

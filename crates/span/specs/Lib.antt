@@ -1,0 +1,8 @@
+pub mod Table
+pub mod Image
+pub mod Demand3
+pub mod Companions
+pub mod Life
+pub mod Worked
+pub mod Tries
+pub mod Hollow

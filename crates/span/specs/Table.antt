@@ -1,0 +1,76 @@
+-- Document 01, "Row table": the plain machine of demand 3. It knows sizes, rows, and a call's numbers and lengths; nothing of an
+-- archive's bytes is in it.
+use Prim.Native.Nat.{ℕ, _/_, _%_}
+use mathlib.Core.Bool.{Bool, true, false}
+use mathlib.Core.List.{List, [], _∷_}
+use lib.ListN.{length}
+use lib.Dec.{eqb, ltb}
+use Rattle.lists.specs.Lists.{pick, at, tab, over}
+use Rattle.answer.specs.declared.Outcome.{Outcome}
+use Rattle.answer.specs.Refusals.{afterwards}
+use Rattle.field.specs.Field.{sum, times}
+use Rattle.tag.specs.declared.Sizes.{Sizes}
+use Rattle.archive.specs.Layout.{placeCount}
+use Rattle.archive.specs.Calls.{Call, encode, lose, repair, answerFor, coefficient}
+
+-- "Its state: for each place, empty or a row of m elements"
+pub data Place : Type 0 where
+  empty : Place
+  filled : List ℕ → Place
+
+-- by node (document 01: box) and place
+abbrev pub Table : Type 0
+Table = ℕ → ℕ → Place
+
+abbrev pub allEmpty : Table
+allEmpty node place = empty
+
+abbrev pub isFilled : Place → Bool
+isFilled empty = false
+isFilled (filled row) = true
+
+-- element i of a place's row; zeros for an empty place
+abbrev pub element : Place → ℕ → ℕ
+element empty i = 0
+element (filled row) i = at row i
+
+-- the place with number k, by node and then place; empty past the last
+unfoldable pub numbered : Sizes → Table → ℕ → Place
+numbered z t k = pick (ltb k (placeCount z)) (t (k / z .places) (k % z .places)) empty
+
+-- "Its answer is the first refusal below that its state, the sizes and the call's numbers and lengths call for (3 never), or else acceptance"
+abbrev pub tableAnswer : Sizes → Table → Call → Outcome
+tableAnswer z t c = answerFor z (λ node place. isFilled (t node place)) c
+
+-- "the sum over helpers i and repair blocks j of theta(i,j,k) times the sum over places l of gamma(i,j,l) times" what x gives for
+-- the helper's place l
+abbrev pub repairSum : Sizes → List ℕ → ℕ → List ℕ → List ℕ → ℕ → (ℕ → ℕ → ℕ) → ℕ
+repairSum z helpers q gammas thetas k x =
+    sum (length helpers) (λ i. sum q (λ j.
+    times (coefficient z q thetas i j k) (sum (z .places) (λ l. times (coefficient z q gammas i j l) (x (at helpers i) l)))))
+
+unfoldable pub repairedRow : Sizes → Table → List ℕ → ℕ → List ℕ → List ℕ → ℕ → List ℕ
+repairedRow z t helpers q gammas thetas k = tab (z .m) (λ i. repairSum z helpers q gammas thetas k (λ node l. element (t node l) i))
+
+-- the table with new j at the j-th of `count` places of a node, from a place on
+unfoldable pub written : ℕ → ℕ → ℕ → (ℕ → Place) → Table → Table
+written node place count new t node′ place′ = pick (eqb node′ node) (over place count new (t node) place′) (t node′ place′)
+
+-- "Encode sets one empty place to the row given. Lose empties a box. Repair sets each target place k to" its sum
+abbrev pub tableEffect : Sizes → Table → Call → Table
+tableEffect z t (encode node place file padding key row) = written node place 1 (λ j. filled row) t
+tableEffect z t (lose node) = written node 0 (z .places) (λ j. empty) t
+tableEffect z t (repair target helpers q gammas thetas scratch) =
+    written target 0 (z .places) (λ k. filled (repairedRow z t helpers q gammas thetas k)) t
+
+-- "A refused call changes nothing"
+abbrev pub tableAfter : Sizes → Table → Call → Table
+tableAfter z t c = afterwards (tableAnswer z t c) t (tableEffect z t c)
+
+abbrev pub tableAnswers : Sizes → Table → List Call → List Outcome
+tableAnswers z t [] = []
+tableAnswers z t (c ∷ cs) = tableAnswer z t c ∷ tableAnswers z (tableAfter z t c) cs
+
+abbrev pub tableRun : Sizes → Table → List Call → Table
+tableRun z t [] = t
+tableRun z t (c ∷ cs) = tableRun z (tableAfter z t c) cs

@@ -1,0 +1,107 @@
+-- Document 01, "Worked values": the entries with a star, "shown of the definitions, as one table under one conjunction".
+-- "Key vector 83 02 01 03 05, n=3, m=2."
+use Prim.Native.Nat.{ℕ}
+use mathlib.Core.Path.{_≡_}
+use mathlib.Core.Bool.{true, false}
+use mathlib.Core.List.{List, [], _∷_, _++_}
+use Rattle.lists.specs.Lists.{at, tab}
+use Rattle.answer.specs.declared.Refusal.the-variants.{Unreadable}
+use Rattle.answer.specs.Numbers.{outcomeNumber}
+use Rattle.field.specs.Field.{plus, times}
+use Rattle.field.specs.Inverse.{inverted, invertedOutcome}
+use Rattle.field.specs.declared.Inverted.the-variants.{Element}
+use Rattle.tag.specs.declared.Sizes.{Sizes}
+use Rattle.tag.specs.Vectors.{product}
+use Rattle.mask.specs.Masks.{auxiliary, mask, maskSum}
+use Rattle.mask.specs.Response.{responseBytes, sumIn, tagIn}
+use Rattle.audit.specs.Challenge.{Challenge, challengeBytes}
+use Rattle.audit.specs.Verdict.{namedRow, appended, accepts}
+use Rattle.archive.specs.Blocks.{source, coded, codedRecord}
+use Rattle.archive.specs.Read.{ReadAllows}
+use Rattle.archive.specs.declared.Counted.the-variants.{Count, Refused}
+use Rattle.tag.specs.KeyVector.{withTag}
+
+abbrev pub z : Sizes
+z = record { n = 3; m = 2; places = 1; nodes = 3 }
+
+abbrev pub vector : ℕ → ℕ
+vector = at (0x83 ∷ 0x02 ∷ 0x01 ∷ 0x03 ∷ 0x05 ∷ [])
+
+-- the file and padding whose source blocks are b1 and b2
+abbrev pub file : List ℕ
+file = 0x57 ∷ 0x01 ∷ []
+
+abbrev pub padding : List ℕ
+padding = 0x01 ∷ 0x00 ∷ 0x00 ∷ 0x04 ∷ []
+
+-- 02·b1+03·b2
+abbrev pub row : ℕ → ℕ
+row = at (0x02 ∷ 0x03 ∷ [])
+
+abbrev pub maskRows : ℕ → ℕ → ℕ
+maskRows i e = at (0x05 ∷ 0x09 ∷ []) i
+
+abbrev pub coefficients : ℕ → ℕ
+coefficients = at (0x01 ∷ 0x02 ∷ [])
+
+-- "Challenge to box 2, place 0, coefficient 01"
+abbrev pub challenge : Challenge
+challenge = record { node = 2; places = 0 ∷ []; coefficients = 0x01 ∷ [] }
+
+abbrev pub seed : List ℕ
+seed = tab 11 (λ i. 0)
+
+-- "That block under coefficient 01", answered by node 2 with a seed of zeros
+abbrev pub response : List ℕ
+response =
+    responseBytes 3 2 (coded z file padding row) (product 5 (coded z file padding row) vector) (mask 3 coefficients maskRows) seed
+    (maskSum 3 coefficients (auxiliary 3 vector maskRows))
+
+-- a response of node 2 with these masked byte, mask sum, elements in clear and tag
+abbrev pub bytes : ℕ → ℕ → ℕ → ℕ → ℕ → List ℕ
+bytes masked total clear clear′ tag = 0x24 ∷ masked ∷ (seed ++ (total ∷ clear ∷ clear′ ∷ tag ∷ []))
+
+-- the row that the auditor has for the one place
+abbrev pub combined : ℕ → ℕ
+combined = namedRow z (0x02 ∷ 0x03 ∷ []) challenge
+
+-- "Places holding b1 and that combination": boxes 0 and 2; and b1 alone
+abbrev pub header : ℕ → List ℕ
+header marks = 0x10 ∷ 0x06 ∷ 0x21 ∷ 0x60 ∷ 1 ∷ 2 ∷ 3 ∷ 4 ∷ 5 ∷ 6 ∷ 7 ∷ 8 ∷ marks ∷ 0 ∷ 0 ∷ 0 ∷ 0 ∷ 0 ∷ []
+
+abbrev pub two : List ℕ
+two =
+    header 0xa0
+    ++ (0x57 ∷ 0x01 ∷ 0x00 ∷ 0x01 ∷ 0x00 ∷ 0xc0 ∷ 0 ∷ 0 ∷ 0 ∷ 0 ∷ 0 ∷ 0 ∷ 0xad ∷ 0x02 ∷ 0x0c ∷ 0x02 ∷ 0x03 ∷ 0x06 ∷ [])
+
+abbrev pub one : List ℕ
+one = header 0x80 ++ (0x57 ∷ 0x01 ∷ 0x00 ∷ 0x01 ∷ 0x00 ∷ 0xc0 ∷ 0 ∷ 0 ∷ 0 ∷ 0 ∷ 0 ∷ 0 ∷ 0 ∷ 0 ∷ 0 ∷ 0 ∷ 0 ∷ 0 ∷ [])
+
+pub record Worked : Type 0 where
+  -- "57·83=c1; 57·13=fe; inverse of 53 is ca; 00 refused 10"
+  pub product-83 : times 0x57 0x83 ≡ 0xc1
+  pub product-13 : times 0x57 0x13 ≡ 0xfe
+  pub inverse-53 : inverted 0x53 ≡ Element 0xca
+  pub inverse-00 : outcomeNumber (invertedOutcome (inverted 0x00)) ≡ 10
+  -- "b1 = 57 01 00 01 00, tag c0; b2 = 01 00 04 00 01, tag 82"
+  pub b1 : tab 6 (withTag 5 vector (source z file padding 0)) ≡ 0x57 ∷ 0x01 ∷ 0x00 ∷ 0x01 ∷ 0x00 ∷ 0xc0 ∷ []
+  pub b2 : tab 6 (withTag 5 vector (source z file padding 1)) ≡ 0x01 ∷ 0x00 ∷ 0x04 ∷ 0x00 ∷ 0x01 ∷ 0x82 ∷ []
+  -- "02·b1+03·b2 = ad 02 0c 02 03, tag 06"
+  pub combination : tab 6 (codedRecord z vector file padding row) ≡ 0xad ∷ 0x02 ∷ 0x0c ∷ 0x02 ∷ 0x03 ∷ 0x06 ∷ []
+  -- "Mask rows 05, 09: auxiliary b9, f7; coefficients 01, 02: mask 17, sum 4c"
+  pub elements : auxiliary 3 vector maskRows ≡ 0xb9 ∷ 0xf7 ∷ []
+  pub mask-17 : mask 3 coefficients maskRows 0 ≡ 0x17
+  pub sum-4c : maskSum 3 coefficients (0xb9 ∷ 0xf7 ∷ []) ≡ 0x4c
+  -- "That block under coefficient 01: masked ba, clear 02 0c, tag 06: accepted (4a on either side)"
+  pub response-is : response ≡ bytes 0xba 0x4c 0x02 0x0c 0x06
+  pub left : product 5 (appended 3 response combined) vector ≡ 0x4a
+  pub right : plus (tagIn 3 response) (sumIn 3 response) ≡ 0x4a
+  pub accepted : accepts z vector combined response ≡ true
+  -- "Masked byte changed by 01: rejected; mask sum also changed by 83: accepted"
+  pub changed : accepts z vector combined (bytes (plus 0xba 0x01) 0x4c 0x02 0x0c 0x06) ≡ false
+  pub changed-both : accepts z vector combined (bytes (plus 0xba 0x01) (plus 0x4c 0x83) 0x02 0x0c 0x06) ≡ true
+  -- "Challenge to box 2, place 0, coefficient 01: 14 20 04"
+  pub message : challengeBytes challenge ≡ 0x14 ∷ 0x20 ∷ 0x04 ∷ []
+  -- "Places holding b1 and that combination, rows 01 00 and 02 03: Read gives 57 01. Row 01 00 alone: 8" (`ReadIsFixed`: and nothing else)
+  pub read-two : ReadAllows two (0 ∷ 0 ∷ []) (Count 2) (0x57 ∷ 0x01 ∷ [])
+  pub read-one : ReadAllows one (0 ∷ 0 ∷ []) (Refused Unreadable) (0 ∷ 0 ∷ [])

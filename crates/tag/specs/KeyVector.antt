@@ -1,0 +1,36 @@
+-- Document 01, "Key vector, tag, mask": F1, the key vector and tags; the operation Vector.
+use Prim.Native.Nat.{ℕ, _+_, _-_}
+use mathlib.Core.List.{List, [], _∷_}
+use lib.ListN.{length}
+use lib.Dec.{ltb}
+use Rattle.lists.specs.Lists.{pick, tab, anyOf}
+use Rattle.answer.specs.declared.Outcome.{Outcome}
+use Rattle.answer.specs.declared.Outcome.the-variants.{Done}
+use Rattle.answer.specs.declared.Refusal.the-variants.{Size, Length}
+use Rattle.answer.specs.Refusals.{refuse, afterwards, differs}
+use Rattle.keystream.specs.Draws.{byteAt}
+use Rattle.tag.specs.Sizes.{nOutside, mOutside}
+use Rattle.tag.specs.Vectors.{product}
+
+-- "F1(k, id, i): byte i−1 of the stream with nonce 01 00 00 00 id"
+unfoldable pub F1 : List ℕ → List ℕ → ℕ → ℕ
+F1 key id i = byteAt key (1 ∷ 0 ∷ 0 ∷ 0 ∷ id) (i - 1)
+
+-- "The key vector has n+m elements, i from 1": element e, counted from 0
+unfoldable pub keyVector : List ℕ → List ℕ → ℕ → ℕ
+keyVector key id e = F1 key id (e + 1)
+
+-- a block of len elements and then its tag: "A block's tag is its product with the key vector"
+unfoldable pub withTag : ℕ → (ℕ → ℕ) → (ℕ → ℕ) → ℕ → ℕ
+withTag len vector block p = pick (ltb p len) (block p) (product len block vector)
+
+-- ---- Vector: "1, a size outside its range; 2, a buffer of wrong length"
+
+unfoldable pub vectorAnswer : List ℕ → List ℕ → ℕ → ℕ → List ℕ → Outcome
+vectorAnswer tagKey id n m out =
+    refuse (anyOf (nOutside n ∷ mOutside m ∷ [])) Size
+    (refuse (anyOf (differs (length tagKey) 32 ∷ differs (length id) 8 ∷ differs (length out) (n + m) ∷ [])) Length
+    Done)
+
+unfoldable pub vectorOut : List ℕ → List ℕ → ℕ → ℕ → List ℕ → List ℕ
+vectorOut tagKey id n m out = afterwards (vectorAnswer tagKey id n m out) out (tab (n + m) (keyVector tagKey id))

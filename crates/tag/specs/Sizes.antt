@@ -1,0 +1,16 @@
+-- Document 01: "n is 3 to 1,024, m is 1 to 16, M (places a box) 1 to 8, N (boxes) 1 to 6."
+use Prim.Native.Nat.{ℕ}
+use mathlib.Core.Bool.{Bool}
+use mathlib.Core.List.{[], _∷_}
+use Rattle.lists.specs.Lists.{anyOf}
+use Rattle.answer.specs.Refusals.{outside}
+use Rattle.tag.specs.declared.Sizes.{Sizes}
+
+abbrev pub nOutside : ℕ → Bool
+nOutside n = outside 3 1024 n
+
+abbrev pub mOutside : ℕ → Bool
+mOutside m = outside 1 16 m
+
+unfoldable pub sizesOutside : Sizes → Bool
+sizesOutside z = anyOf (nOutside (z .n) ∷ mOutside (z .m) ∷ outside 1 8 (z .places) ∷ outside 1 6 (z .nodes) ∷ [])

@@ -1,0 +1,9 @@
+// Key vectors and tags (NC-Audit): the sizes of an archive, F1, and the tag of a block.
+
+// n, m, the places of a node and the nodes. Document 01: n, m, M (places a box), N (boxes).
+pub struct Sizes {
+    pub n: usize,
+    pub m: usize,
+    pub places: usize,
+    pub nodes: usize,
+}
