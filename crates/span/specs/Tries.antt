@@ -12,8 +12,11 @@ use Rattle.tag.specs.Sizes.{sizesOutside}
 use Rattle.audit.specs.Challenge.{Challenge, challengeOf, malformedChallenge, challengeAnswer, challengeOut}
 use Rattle.archive.specs.Layout.{archiveLength, sizeFields, badArchive, opened, openAnswer}
 use Rattle.archive.specs.Read.{Bytes}
+use Rattle.archive.specs.Inventory.{InventoryAllows}
+use Rattle.archive.specs.declared.Counted.the-variants.{Count}
 use Rattle.span.specs.Table.{Table, allEmpty}
 use Rattle.span.specs.Image.{Setting, image}
+use Rattle.span.specs.Worked as W
 
 -- n, m=2, M=1, N=3
 abbrev pub sizes : ℕ → Sizes
@@ -40,3 +43,6 @@ pub record Tries : Type 0 where
   pub n-2 : (id archive : List ℕ) → openAnswer (sizes 2) id archive ≡ Refused Size
   pub n-1025 : (id archive : List ℕ) → openAnswer (sizes 1025) id archive ≡ Refused Size
   pub marks-a0 : packed 6 marks ≡ 0xa0 ∷ 0 ∷ 0 ∷ 0 ∷ 0 ∷ 0 ∷ []
+  -- Inventory of that archive may list place 0 of box 2 first, 8·2+0, then that of box 0; not a place twice
+  pub listed : InventoryAllows W.two (0 ∷ 0 ∷ 0 ∷ []) (Count 2) (16 ∷ 0 ∷ 0 ∷ [])
+  pub twice : ¬ InventoryAllows W.two (0 ∷ 0 ∷ 0 ∷ []) (Count 2) (16 ∷ 16 ∷ 0 ∷ [])
