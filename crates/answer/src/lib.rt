@@ -12,7 +12,7 @@ pub enum Refusal {
     BadArchive,
     // 4: no such node (document 01: box) or place.
     NoSuchPlace,
-    // 5: a place that is named is empty.
+    // 5: a place that must be filled is empty.
     PlaceEmpty,
     // 6: a place that would be filled is filled.
     PlaceFilled,

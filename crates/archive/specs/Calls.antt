@@ -86,7 +86,7 @@ unfoldable pub scratchAfter : List ℕ → ℕ → List ℕ → ℕ → List ℕ
 scratchAfter s target helpers q gammas thetas scratch =
     afterwards (archiveAnswer s (repair target helpers q gammas thetas (length scratch))) scratch (scratchMade (sizesOf s) s helpers q gammas)
 
--- ---- a list of calls: "Each call gets the archive as the last one left it"
+-- ---- a list of calls; demand 3: "Each call gets the archive as the last one left it"
 
 abbrev pub archiveAnswers : List ℕ → List Call → List Outcome
 archiveAnswers s [] = []

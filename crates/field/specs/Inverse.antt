@@ -12,7 +12,11 @@ use Rattle.field.specs.Field.{inverseOf}
 unfoldable pub inverted : ℕ → Inverted
 inverted a = pick (eqb a 0) Zero (Element (inverseOf a))
 
--- what each case says: an element is done, Zero is the refusal 10
+-- what each case says: an element is done, with its value; Zero is the refusal 10, without one
 abbrev pub invertedOutcome : Inverted → Outcome
 invertedOutcome (Element b) = Done
 invertedOutcome Zero = Refused ZeroInverse
+
+abbrev pub invertedValue : Inverted → ℕ
+invertedValue (Element b) = b
+invertedValue Zero = 0

@@ -1,3 +1,4 @@
 pub mod Field
 pub mod Inverse
 pub mod Tables
+pub mod Laws

@@ -8,6 +8,7 @@ ghost use Prim.Native.Nat.{_<_};
 ghost use Rattle.field.specs.Field.{times, power};
 ghost use Rattle.field.specs.Inverse.{inverted, invertedOutcome};
 ghost use Rattle.field.specs.Tables.{PowerTable, LogTable};
+ghost use Rattle.field.specs.Laws.{FieldLaws};
 use answer::Outcome;
 use answer::Refusal;
 
@@ -79,3 +80,8 @@ pub fn outcome(i: Inverted) -> Outcome
         Inverted::Zero => Outcome::Refused(Refusal::ZeroInverse),
     }
 }
+
+// Carries the laws of the field: without their proof the crate is not proved.
+pub fn field_laws()
+    ensures { λ _. ⌜ FieldLaws ⌝ }
+{}

@@ -16,12 +16,13 @@ use Rattle.keystream.specs.ChaCha.{half, quarterOf, setFour, quarter, quadruple
 use Rattle.keystream.specs.Draws.{byteAt}
 use Rattle.bits.specs.Fields.{bitOf, bitsOf, widths, number, packed, pack}
 use Rattle.tag.specs.Vectors.{product, mixed}
-use Rattle.mask.specs.Masks.{F2, auxiliary, mask, maskSum}
+use Rattle.mask.specs.Masks.{F2, maskRow, auxiliary, mask, maskSum}
 use Rattle.mask.specs.Response.{responseBytes, dataIn}
 use Rattle.audit.specs.Verdict.{namedRow, appended, accepts}
 use Rattle.archive.specs.Layout.{recordLength, placeCount, placeNumber, sizesOf, markAt, byteIn}
 use Rattle.archive.specs.Blocks.{source, coded}
 use Rattle.archive.specs.Calls.{answerFor, archiveAnswer, archiveAfter}
+use Rattle.archive.specs.Prove.{namedByte}
 use Rattle.archive.specs.Read.{howMany, rowIn, Blind, ReadAllows}
 use Rattle.archive.specs.Inventory.{InventoryAllows}
 use Rattle.archive.specs.declared.Counted.the-variants.{Count, Refused}
@@ -34,7 +35,7 @@ use Rattle.span.specs.Worked as W
 use Rattle.span.specs.Hollow.{fresh, firstCall, Hollow}
 use Rattle.span.proofs.ImageLaws.{image-mark, image-number}
 use Rattle.span.proofs.DemandLaws.{fits, run-is, demand3}
-use Rattle.span.proofs.Life.{lived}
+use Rattle.span.proofs.Life.{two-bytes, given, lived}
 
 -- ---- the life in numbers
 
@@ -46,18 +47,18 @@ bytes-are : tab (recordLength L.z) (byteIn L.z L.archive (placeNumber L.z 2 0)) 
 unfolding tab byteIn
 bytes-are = rw (lived .archive-is)
 
-first-row : F2 L.maskKey L.id 1 1 ≡ 111
-unfolding F2 byteAt half quarterOf setFour quarter quadruples quartersTo rounds blockWords serialised wordAt start blockOf tab
+first-row : maskRow L.maskKey L.id 0 0 ≡ 111
+unfolding maskRow F2 byteAt half quarterOf setFour quarter quadruples quartersTo rounds blockWords serialised wordAt start blockOf tab
 first-row = refl
 
-second-row : F2 L.maskKey L.id 2 1 ≡ 167
-unfolding F2 byteAt half quarterOf setFour quarter quadruples quartersTo rounds blockWords serialised wordAt start blockOf tab
+second-row : maskRow L.maskKey L.id 1 0 ≡ 167
+unfolding maskRow F2 byteAt half quarterOf setFour quarter quadruples quartersTo rounds blockWords serialised wordAt start blockOf tab
 second-row = refl
 
 -- ---- its first call
 
-one-call : Admitted L.given allEmpty (firstCall ∷ [])
-one-call = (λ e. (refl, refl, refl, L.two-bytes 0x01 0x00 (omega arith) (omega arith)), tt)
+one-call : Admitted given allEmpty (firstCall ∷ [])
+one-call = (λ e. (refl, refl, refl, two-bytes 0x01 0x00 (omega arith) (omega arith)), tt)
 
 abbrev after-one : Table
 after-one = tableRun L.z allEmpty (firstCall ∷ [])
@@ -75,14 +76,14 @@ other-empty (suc (suc (suc (suc (suc (suc k)))))) h l = absurd (omega arith)
 one-place-only : (k : ℕ) → 0 < k → k < placeCount L.z
     → (markAt (archiveAfter fresh firstCall) k ≡ false) × ((e : ℕ) → e < recordLength L.z → byteIn L.z (archiveAfter fresh firstCall) k e ≡ 0)
 one-place-only k h l =
-    rw (run-is L.given (firstCall ∷ []) one-call) (
-      image-mark (setting L.given) (fits L.given) after-one k (omega arith) ∙ ap isFilled (other-empty k h l),
-      λ e he. image-number (setting L.given) (fits L.given) after-one k e l he ∙ ap (λ (x : Place). placeRecord (setting L.given) x e) (other-empty k h l),
+    rw (run-is given (firstCall ∷ []) one-call) (
+      image-mark (setting given) (fits given) after-one k (omega arith) ∙ ap isFilled (other-empty k h l),
+      λ e he. image-number (setting given) (fits given) after-one k e l he ∙ ap (λ (x : Place). placeRecord (setting given) x e) (other-empty k h l),
     )
 
 first-answer : archiveAnswer fresh firstCall ≡ Done
 unfolding answerFor refuse anyOf
-first-answer = let e : archiveAnswer fresh firstCall ∷ [] ≡ Done ∷ [] = demand3 L.given (firstCall ∷ []) one-call .answers in cc
+first-answer = let e : archiveAnswer fresh firstCall ∷ [] ≡ Done ∷ [] = demand3 given (firstCall ∷ []) one-call .answers in cc
 
 -- ---- Read and Inventory
 
@@ -100,7 +101,7 @@ counted-right s out list count w =
     w .1 .number ∙ howMany-same (placeCount (sizesOf s)) _ (markAt s) (λ k h. ap (markAt s) (div-add-mod' k (sizesOf s .places)))
 
 pub hollow : Hollow
-unfolding product sum times xtimes xtime modulus appended dataIn namedRow mixed coded source mask maskSum auxiliary responseBytes pack packed bitsOf bitOf widths number tab accepts
+unfolding product sum times xtimes xtime modulus appended dataIn namedRow mixed coded source mask maskSum auxiliary responseBytes pack packed bitsOf bitOf widths number tab accepts namedByte byteIn
 hollow =
     record {
       without-mask-sum = refl;
@@ -114,5 +115,5 @@ hollow =
       one-place = one-place-only;
       seen = seen-blind;
       counted = counted-right;
-      consulted = λ s out file count w. w .3 .least;
+      consulted = λ s out file count w. w .3;
     }

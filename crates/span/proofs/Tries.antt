@@ -22,6 +22,7 @@ use Rattle.archive.proofs.SizeLaws.{ranged}
 use Rattle.span.specs.Worked as W
 use Rattle.span.specs.Tries.{Tries}
 use Rattle.span.proofs.ImageLaws.{image-good, opened-is}
+use Rattle.span.proofs.Worked.{two-sizes}
 
 both-back : (c : Challenge) (lent : List ℕ) → challengeAnswer c lent ≡ Done → Bytes (c .coefficients)
     → (challengeOf (challengeOut c lent) ≡ c) × (malformedChallenge (challengeOut c lent) ≡ false)
@@ -31,10 +32,6 @@ both-back c lent asked bytes =
     rw (asked-bytes c lent asked) (read-back c R even bytes, well-formed c R even bytes (asked-rule c lent asked))
 
 -- ---- Inventory of the archive with two places
-
-two-sizes : sizesOf W.two ≡ W.z
-unfolding sizesOf fieldAt bitAt number
-two-sizes = refl
 
 lent-right : inventoryBefore W.z W.two (0 ∷ 0 ∷ 0 ∷ []) ≡ Done
 unfolding refuse badFor sizesOutside outside anyOf anyBelow sizesOf fieldAt bitAt number markAt

@@ -25,12 +25,13 @@ use Rattle.audit.specs.Challenge.{items, challengeBytes}
 use Rattle.audit.specs.Verdict.{namedRow, appended, accepts}
 use Rattle.archive.specs.Layout.{sizesOf, markAt, byteIn, badFor}
 use Rattle.archive.specs.Blocks.{source, coded, codedRecord}
+use Rattle.archive.specs.Prove.{namedByte}
 use Rattle.archive.specs.Read.{howMany, rowIn, Blind, among, Combined, Solved, readBefore, ReadFor, ReadAllows}
 use Rattle.answer.specs.declared.Outcome.the-variants.{Done}
 use Rattle.answer.specs.declared.Refusal.the-variants.{Unreadable}
 use Rattle.archive.specs.declared.Counted.the-variants.{Count, Refused}
 use Rattle.span.specs.Worked as W
-use Rattle.span.specs.Life.{two-bytes}
+use Rattle.span.proofs.Life.{two-bytes}
 
 -- ---- Read: the archive with two places
 
@@ -42,7 +43,7 @@ one-before : readBefore W.z W.one (0 ∷ 0 ∷ []) ≡ Done
 unfolding refuse badFor sizesOutside outside anyOf anyBelow sizesOf fieldAt bitAt number markAt byteIn
 one-before = refl
 
-two-sizes : sizesOf W.two ≡ W.z
+pub two-sizes : sizesOf W.two ≡ W.z
 unfolding sizesOf fieldAt bitAt number markAt byteIn
 two-sizes = refl
 
@@ -179,7 +180,7 @@ reads-one =
 -- ---- the table
 
 pub worked : W.Worked
-unfolding sum times xtimes xtime modulus inverted inverseOf last withTag product source mixed coded codedRecord tab auxiliary mask maskSum responseBytes dataIn pack packed bitsOf bitOf widths number items challengeBytes namedRow appended accepts
+unfolding sum times xtimes xtime modulus inverted inverseOf last withTag product source mixed coded codedRecord tab auxiliary mask maskSum responseBytes dataIn pack packed bitsOf bitOf widths number items challengeBytes namedRow appended accepts namedByte byteIn
 worked =
     record {
       product-83 = refl;
@@ -201,4 +202,5 @@ worked =
       message = refl;
       read-two = reads-two;
       read-one = reads-one;
+      eight = refl;
     }

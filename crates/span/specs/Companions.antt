@@ -15,7 +15,7 @@ use Rattle.archive.specs.Inventory.{InventoryAllows}
 use Rattle.archive.specs.declared.Counted.{Counted}
 use Rattle.archive.specs.declared.Counted.the-variants.{Count, Refused}
 
--- "unmasking gives back the block": for every archive, auxiliary list, seed and challenge that Prove accepts
+-- demand 2: "unmasking gives the block that was masked", that is its first n−2 elements: for every archive, auxiliary list, seed and challenge that Prove accepts
 abbrev pub Unmasking : Type 0
 Unmasking =
     (s maskKey elements seed message lent out : List ℕ) → proveAnswer s maskKey elements seed message lent ≡ Done → length out ≡ sizesOf s .n - 2

@@ -1,4 +1,5 @@
--- Demand 3, document 01: "a single claim about the whole list, and not one for each call".
+-- Demand 3 (docs/STATEMENT.md has the demands in full), in document 01's terms: "a single claim about the whole list, and not one
+-- for each call".
 use Prim.Native.Nat.{ℕ, _<_}
 use mathlib.Core.Path.{_≡_}
 use mathlib.Core.Logic.{_↔_, _≢_}

@@ -1,6 +1,6 @@
 -- Document 01, "Mistakes and hollow programs": for each line, the fact about the definitions that rules it out. The numbers are those
 -- of the worked values and of the life in numbers.
-use Prim.Native.Nat.{ℕ, _<_, _≤_}
+use Prim.Native.Nat.{ℕ, _<_}
 use mathlib.Core.Path.{_≡_}
 use mathlib.Core.Logic.{_≢_}
 use mathlib.Core.Bool.{true, false}
@@ -10,12 +10,12 @@ use Rattle.lists.specs.Lists.{tab}
 use Rattle.answer.specs.declared.Outcome.the-variants.{Done}
 use Rattle.answer.specs.declared.Refusal.the-variants.{Unreadable}
 use Rattle.tag.specs.Vectors.{product}
-use Rattle.mask.specs.Masks.{F2}
+use Rattle.mask.specs.Masks.{maskRow}
 use Rattle.mask.specs.Response.{tagIn}
 use Rattle.audit.specs.Verdict.{namedRow, appended, accepts}
 use Rattle.archive.specs.Layout.{recordLength, placeNumber, placeCount, sizesOf, markAt, byteIn, openOut}
 use Rattle.archive.specs.Calls.{Call, encode, archiveAnswer, archiveAfter}
-use Rattle.archive.specs.Read.{howMany, rowIn, Blind, ReadAllows}
+use Rattle.archive.specs.Read.{howMany, rowIn, Blind, Enough, ReadAllows}
 use Rattle.archive.specs.Inventory.{InventoryAllows}
 use Rattle.archive.specs.declared.Counted.the-variants.{Count, Refused}
 use Rattle.span.specs.Worked as W
@@ -23,7 +23,7 @@ use Rattle.span.specs.Life as L
 
 -- an archive as Open wrote it in the life, and after its first call
 abbrev pub fresh : List ℕ
-fresh = openOut L.z L.id (tab 54 (λ i. 0))
+fresh = openOut L.z L.id L.lent
 
 abbrev pub firstCall : Call
 firstCall = encode 0 0 L.file L.padding L.tagKey (0x01 ∷ 0x00 ∷ [])
@@ -36,7 +36,7 @@ pub record Hollow : Type 0 where
   -- "Only data combined in Repair, the m tail elements copied from one helper": the repaired row is no helper's row (`rows`)
   pub repaired-row : tab 2 (rowIn L.z L.archive (placeNumber L.z 2 0)) ≡ 0xf3 ∷ 0xfe ∷ []
   -- "Mask row index left out of F2, making all rows equal": two rows differ
-  pub rows-differ : F2 L.maskKey L.id 1 1 ≢ F2 L.maskKey L.id 2 1
+  pub rows-differ : maskRow L.maskKey L.id 0 0 ≢ maskRow L.maskKey L.id 1 0
   -- "A Verdict that always accepts, or always rejects": one response is accepted, and one is not (`audits`, `altered`)
   pub one-accepted : accepts W.z W.vector W.combined W.response ≡ true
   pub one-rejected : accepts W.z W.vector W.combined (W.bytes 0xbb 0x4c 0x02 0x0c 0x06) ≡ false
@@ -51,5 +51,5 @@ pub record Hollow : Type 0 where
   pub seen : (s out written : List ℕ) → ReadAllows s out (Refused Unreadable) written → Blind (sizesOf s) (markAt s) (rowIn (sizesOf s) s)
   -- "an Inventory number made up": the number is that of the filled places
   pub counted : (s out list : List ℕ) (count : ℕ) → InventoryAllows s out (Count count) list → count ≡ howMany (placeCount (sizesOf s)) (markAt s)
-  -- "a Read count too small": at least m places were consulted
-  pub consulted : (s out file : List ℕ) (count : ℕ) → ReadAllows s out (Count count) file → sizesOf s .m ≤ count
+  -- "a Read count too small": at least m places were consulted, and they suffice
+  pub consulted : (s out file : List ℕ) (count : ℕ) → ReadAllows s out (Count count) file → Enough (sizesOf s) (markAt s) (rowIn (sizesOf s) s) count

@@ -1,18 +1,13 @@
 -- A life in numbers: a concrete archive, keys and a list of calls that meet every premise of demand 3, with accepted Encodes, an
 -- accepted Repair, refused calls that carry other data, and an honest audit. Independent programs agree on the bytes.
-use Prim.Native.Nat.{ℕ, zero, suc, _<_}
+use Prim.Native.Nat.{ℕ}
 use mathlib.Core.Path.{_≡_, refl}
 use mathlib.Core.List.{List, [], _∷_}
-use native.Mathlib.Omega.{arith}
-use Rattle.lists.specs.Lists.{tab, anyOf, anyBelow}
+use Rattle.lists.specs.Lists.{tab}
 use Rattle.answer.specs.declared.Outcome.the-variants.{Done, Refused}
 use Rattle.answer.specs.declared.Refusal.the-variants.{Length, NoSuchPlace, PlaceEmpty, PlaceFilled}
-use Rattle.answer.specs.Refusals.{refuse, outside}
-use Rattle.keystream.specs.ChaCha.{half, quarterOf, setFour, quarter, quadruples, quartersTo, rounds, blockWords, serialised, wordAt, start, blockOf}
-use Rattle.keystream.specs.Draws.{byteAt}
 use Rattle.tag.specs.declared.Sizes.{Sizes}
-use Rattle.tag.specs.Sizes.{sizesOutside}
-use Rattle.tag.specs.KeyVector.{F1, keyVector}
+use Rattle.tag.specs.KeyVector.{vectorOut}
 use Rattle.mask.specs.Operations.{setupAnswer}
 use Rattle.audit.specs.declared.Judgement.the-variants.{Accepted}
 use Rattle.archive.specs.Layout.{openAnswer, openOut}
@@ -68,34 +63,28 @@ calls =
     ∷ lose 0
     ∷ []
 
-pub opens : openAnswer z id (tab 54 (λ i. 0)) ≡ Done
-unfolding openAnswer refuse sizesOutside outside anyOf tab
-opens = refl
+abbrev pub lent : List ℕ
+lent = tab 54 (λ i. 0)
 
-pub sets-up : setupAnswer tagKey maskKey id 3 (0 ∷ 0 ∷ []) ≡ Done
-unfolding setupAnswer refuse outside anyOf anyBelow keyVector F1 byteAt half quarterOf setFour quarter quadruples quartersTo rounds blockWords serialised wordAt start blockOf tab
-sets-up = refl
+abbrev pub elementsLent : List ℕ
+elementsLent = 0 ∷ 0 ∷ []
 
-pub two-bytes : (a b : ℕ) → a < 256 → b < 256 → Bytes (a ∷ b ∷ [])
-two-bytes a b p q zero h = p
-two-bytes a b p q (suc zero) h = q
-two-bytes a b p q (suc (suc i)) h = absurd (omega arith)
-
-abbrev pub given : Given
-given =
+-- the setting, once Open and Setup have accepted it
+abbrev pub given : openAnswer z id lent ≡ Done → setupAnswer tagKey maskKey id 3 elementsLent ≡ Done → Bytes file → Given
+given opens sets-up bytes =
     record {
       z = z;
       id = id;
-      lent = tab 54 (λ i. 0);
+      lent = lent;
       open-done = opens;
       file = file;
       file-size = refl;
-      file-bytes = two-bytes 0x57 0x01 (omega arith) (omega arith);
+      file-bytes = bytes;
       padding = padding;
       padding-size = refl;
       tagKey = tagKey;
       maskKey = maskKey;
-      elements-lent = 0 ∷ 0 ∷ [];
+      elements-lent = elementsLent;
       setup-done = sets-up;
     }
 
@@ -103,7 +92,7 @@ abbrev pub table : Table
 table = tableRun z allEmpty calls
 
 abbrev pub archive : List ℕ
-archive = archiveRun (openOut z id (tab 54 (λ i. 0))) calls
+archive = archiveRun (openOut z id (lent)) calls
 
 abbrev pub archiveBytes : List ℕ
 archiveBytes =
@@ -116,13 +105,17 @@ responseBytes =
     0x24 ∷ 0x2a ∷ 0x00 ∷ 0x14 ∷ 0x28 ∷ 0x3c ∷ 0x50 ∷ 0x64 ∷ 0x78 ∷ 0x8c ∷ 0xa0 ∷ 0xb4 ∷ 0xc8 ∷ 0x63 ∷ 0xc8 ∷ 0x55 ∷ 0x4d ∷ []
 
 pub record Lived : Type 0 where
-  pub admitted : Admitted given allEmpty calls
-  pub answers : archiveAnswers (openOut z id (tab 54 (λ i. 0))) calls
+  pub opens : openAnswer z id lent ≡ Done
+  pub sets-up : setupAnswer tagKey maskKey id 3 elementsLent ≡ Done
+  pub file-bytes : Bytes file
+  pub admitted : Admitted (given opens sets-up file-bytes) allEmpty calls
+  pub answers : archiveAnswers (openOut z id lent) calls
       ≡ Done ∷ Refused PlaceFilled ∷ Done ∷ Refused Length ∷ Done ∷ Refused PlaceEmpty ∷ Done ∷ Refused NoSuchPlace ∷ Done ∷ Done ∷ []
   pub archive-is : archive ≡ archiveBytes
-  pub elements-are : elements given ≡ 0xa7 ∷ 0xaa ∷ []
+  pub vector-is : vectorOut tagKey id 3 2 (tab 5 (λ i. 0)) ≡ 0x04 ∷ 0x22 ∷ 0x0a ∷ 0x59 ∷ 0x61 ∷ []
+  pub elements-are : elements (given opens sets-up file-bytes) ≡ 0xa7 ∷ 0xaa ∷ []
   -- node 2, places 0 and 1, coefficients 07 and b5
-  pub audit : Honest given table
-  pub message-is : message given table archive audit ≡ 0x14 ∷ 0x40 ∷ 0x1c ∷ 0xda ∷ 0x80 ∷ []
-  pub sent-is : sent given table archive audit ≡ responseBytes
-  pub accepted : says given table archive audit (sent given table archive audit) ≡ Accepted
+  pub audit : Honest (given opens sets-up file-bytes) table
+  pub message-is : message (given opens sets-up file-bytes) table archive audit ≡ 0x14 ∷ 0x40 ∷ 0x1c ∷ 0xda ∷ 0x80 ∷ []
+  pub sent-is : sent (given opens sets-up file-bytes) table archive audit ≡ responseBytes
+  pub accepted : says (given opens sets-up file-bytes) table archive audit (sent (given opens sets-up file-bytes) table archive audit) ≡ Accepted

@@ -16,8 +16,10 @@ use Rattle.mask.specs.Masks.{auxiliary, mask, maskSum}
 use Rattle.mask.specs.Response.{responseBytes, sumIn, tagIn}
 use Rattle.audit.specs.Challenge.{Challenge, challengeBytes}
 use Rattle.audit.specs.Verdict.{namedRow, appended, accepts}
-use Rattle.archive.specs.Blocks.{source, coded, codedRecord}
+use Rattle.archive.specs.Blocks.{source, codedRecord}
+use Rattle.archive.specs.Prove.{namedByte}
 use Rattle.archive.specs.Read.{ReadAllows}
+use Rattle.archive.specs.Counted.{countedNumber}
 use Rattle.archive.specs.declared.Counted.the-variants.{Count, Refused}
 use Rattle.tag.specs.KeyVector.{withTag}
 
@@ -51,12 +53,6 @@ challenge = record { node = 2; places = 0 ∷ []; coefficients = 0x01 ∷ [] }
 abbrev pub seed : List ℕ
 seed = tab 11 (λ i. 0)
 
--- "That block under coefficient 01", answered by node 2 with a seed of zeros
-abbrev pub response : List ℕ
-response =
-    responseBytes 3 2 (coded z file padding row) (product 5 (coded z file padding row) vector) (mask 3 coefficients maskRows) seed
-    (maskSum 3 coefficients (auxiliary 3 vector maskRows))
-
 -- a response of node 2 with these masked byte, mask sum, elements in clear and tag
 abbrev pub bytes : ℕ → ℕ → ℕ → ℕ → ℕ → List ℕ
 bytes masked total clear clear′ tag = 0x24 ∷ masked ∷ (seed ++ (total ∷ clear ∷ clear′ ∷ tag ∷ []))
@@ -76,6 +72,12 @@ two =
 
 abbrev pub one : List ℕ
 one = header 0x80 ++ (0x57 ∷ 0x01 ∷ 0x00 ∷ 0x01 ∷ 0x00 ∷ 0xc0 ∷ 0 ∷ 0 ∷ 0 ∷ 0 ∷ 0 ∷ 0 ∷ 0 ∷ 0 ∷ 0 ∷ 0 ∷ 0 ∷ 0 ∷ [])
+
+-- "That block under coefficient 01": node 2 of that archive combines the named place by the challenge; the seed is zeros
+abbrev pub response : List ℕ
+response =
+    responseBytes 3 2 (namedByte z two challenge) (namedByte z two challenge 5) (mask 3 coefficients maskRows) seed
+    (maskSum 3 coefficients (auxiliary 3 vector maskRows))
 
 pub record Worked : Type 0 where
   -- "57·83=c1; 57·13=fe; inverse of 53 is ca; 00 refused 10"
@@ -105,3 +107,4 @@ pub record Worked : Type 0 where
   -- "Places holding b1 and that combination, rows 01 00 and 02 03: Read gives 57 01. Row 01 00 alone: 8" (`ReadIsFixed`: and nothing else)
   pub read-two : ReadAllows two (0 ∷ 0 ∷ []) (Count 2) (0x57 ∷ 0x01 ∷ [])
   pub read-one : ReadAllows one (0 ∷ 0 ∷ []) (Refused Unreadable) (0 ∷ 0 ∷ [])
+  pub eight : countedNumber (Refused Unreadable) ≡ 8

@@ -1,5 +1,6 @@
 -- Document 01, "Key vector, tag, mask": F1, the key vector and tags; the operation Vector.
 use Prim.Native.Nat.{ℕ, _+_, _-_}
+use mathlib.Core.Path.{_≡_}
 use mathlib.Core.List.{List, [], _∷_}
 use lib.ListN.{length}
 use lib.Dec.{ltb}
@@ -10,7 +11,7 @@ use Rattle.answer.specs.declared.Refusal.the-variants.{Size, Length}
 use Rattle.answer.specs.Refusals.{refuse, afterwards, differs}
 use Rattle.keystream.specs.Draws.{byteAt}
 use Rattle.tag.specs.Sizes.{nOutside, mOutside}
-use Rattle.tag.specs.Vectors.{product}
+use Rattle.tag.specs.Vectors.{product, mixed}
 
 -- "F1(k, id, i): byte i−1 of the stream with nonce 01 00 00 00 id"
 unfoldable pub F1 : List ℕ → List ℕ → ℕ → ℕ
@@ -24,7 +25,13 @@ keyVector key id e = F1 key id (e + 1)
 unfoldable pub withTag : ℕ → (ℕ → ℕ) → (ℕ → ℕ) → ℕ → ℕ
 withTag len vector block p = pick (ltb p len) (block p) (product len block vector)
 
--- ---- Vector: "1, a size outside its range; 2, a buffer of wrong length"
+-- "Combining blocks combines their tags by the same coefficients": of blocks with their tags behind them, element by element
+abbrev pub TagsCombine : Type 0
+TagsCombine =
+    (len count : ℕ) (coefficients : ℕ → ℕ) (blocks : ℕ → ℕ → ℕ) (vector : ℕ → ℕ) (p : ℕ)
+    → withTag len vector (mixed count coefficients blocks) p ≡ mixed count coefficients (λ i. withTag len vector (blocks i)) p
+
+-- ---- Vector: "1, a size outside its range (Vector only); 2, a buffer of wrong length"
 
 unfoldable pub vectorAnswer : List ℕ → List ℕ → ℕ → ℕ → List ℕ → Outcome
 vectorAnswer tagKey id n m out =

@@ -1,4 +1,4 @@
-// Runs the vectors of RFC 8439 and FIPS 197, and document 01's worked values without a star, through the public functions.
+// Runs the vectors of RFC 8439 and FIPS 197, and document 01's worked header and challenge, through the public functions.
 mod fips197;
 mod packing;
 mod report;
