@@ -1,5 +1,13 @@
 // Key vectors and tags (NC-Audit): the sizes of an archive, F1, and the tag of a block.
-ghost use Rattle.tag.specs.KeyVector.{TagsCombine};
+ghost use mathlib.Core.Path.{_≡_};
+ghost use mathlib.Core.List.{_∷_};
+ghost use lib.ListN.{length};
+ghost use Rattle.lists.specs.Lists.{tab};
+ghost use Rattle.keystream.specs.Draws.{fresh, drawn, after};
+ghost use Rattle.tag.specs.KeyVector.{TagsCombine, vectorAnswer, vectorOut};
+use answer::Outcome;
+use answer::Refusal;
+use keystream::Stream;
 
 // n, m, the places of a node and the nodes. Document 01: n, m, M (places a box), N (boxes).
 pub struct Sizes {
@@ -7,6 +15,92 @@ pub struct Sizes {
     pub m: usize,
     pub places: usize,
     pub nodes: usize,
+}
+
+// A key by value.
+pub fn key_array(s: &[u8]) -> [u8; 32]
+    requires { ⌜ length (now s) ≡ 32 ⌝ }
+    ensures { λ r. ⌜ r ≡ now (s .entry) ⌝ }
+{
+    let mut out = [0u8; 32];
+    for i in 0..32 {
+        out[i] = s[i];
+    }
+    out
+}
+
+// The nonce that starts with four bytes and ends with an id.
+pub fn id_nonce(a: u8, b: u8, c: u8, d: u8, id: &[u8]) -> [u8; 12]
+    requires { ⌜ length (now id) ≡ 8 ⌝ }
+    ensures { λ r. ⌜ r ≡ a ∷ b ∷ c ∷ d ∷ now (id .entry) ⌝ }
+{
+    [
+        a,
+        b,
+        c,
+        d,
+        id[0],
+        id[1],
+        id[2],
+        id[3],
+        id[4],
+        id[5],
+        id[6],
+        id[7],
+    ]
+}
+
+// Fills out with the next bytes of a stream.
+pub fn draw_into(s: Stream, out: &mut [u8])
+    ensures { λ _. ⌜ now (out .exit) ≡ tab (length (now (out .entry))) (λ i. drawn (after i s) .byte) ⌝ }
+{
+    let mut t = s;
+    for i in 0..out.len() {
+        let d = t.next();
+        out[i] = d.byte;
+        let u = d.stream;
+        t = u;
+    }
+}
+
+// The first refusal of Vector.
+fn vector_check(key: &[u8], id: &[u8], n: usize, m: usize, out: &[u8]) -> Outcome
+    ensures { λ r. ⌜ r ≡ vectorAnswer (now (key .entry)) (now (id .entry)) n m (now (out .entry)) ⌝ }
+{
+    if n < 3 {
+        return Outcome::Refused(Refusal::Size);
+    }
+    if 1024 < n {
+        return Outcome::Refused(Refusal::Size);
+    }
+    if m < 1 {
+        return Outcome::Refused(Refusal::Size);
+    }
+    if 16 < m {
+        return Outcome::Refused(Refusal::Size);
+    }
+    if key.len() != 32 {
+        return Outcome::Refused(Refusal::Length);
+    }
+    if id.len() != 8 {
+        return Outcome::Refused(Refusal::Length);
+    }
+    if out.len() != n + m {
+        return Outcome::Refused(Refusal::Length);
+    }
+    Outcome::Done
+}
+
+// The key vector of n + m elements.
+pub fn vector(key: &[u8], id: &[u8], n: usize, m: usize, out: &mut [u8]) -> Outcome
+    ensures answer { λ r. ⌜ r ≡ vectorAnswer (now (key .entry)) (now (id .entry)) n m (now (out .entry)) ⌝ }
+    ensures output { λ _. ⌜ now (out .exit) ≡ vectorOut (now (key .entry)) (now (id .entry)) n m (now (out .entry)) ⌝ }
+{
+    let answer = vector_check(key, id, n, m, out);
+    if let Outcome::Done = answer {
+        draw_into(Stream::new(key_array(key), id_nonce(1, 0, 0, 0, id)), out);
+    }
+    answer
 }
 
 // Carries the law of tags: without its proof the crate is not proved.

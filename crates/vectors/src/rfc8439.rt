@@ -102,7 +102,7 @@ fn block_case(label: &[u8], key: [u8; 32], counter: u32, nonce: [u8; 12], expect
 }
 
 // The bytes 0, 1, 2, ..
-fn counting_key() -> [u8; 32] {
+pub fn counting_key() -> [u8; 32] {
     let mut key = [0u8; 32];
     for i in 0u8..32 {
         key[i as usize] = i;

@@ -1,0 +1,32 @@
+-- What Vector's answer tells, and what is written then. Assumes nothing.
+use Prim.Native.Nat.{ℕ, _+_}
+use mathlib.Core.Path.{_≡_, sym, ap, _∙_}
+use mathlib.Core.List.{List, _∷_}
+use lib.ListN.{length}
+use Rattle.lists.specs.Lists.{tab}
+use Rattle.lists.proofs.AnyLaws.{any-first, any-rest}
+use Rattle.answer.specs.declared.Outcome.{Outcome}
+use Rattle.answer.specs.declared.Outcome.the-variants.{Done, Refused}
+use Rattle.answer.specs.declared.Refusal.{Refusal}
+use Rattle.answer.proofs.RefusalLaws.{accepted, same, after-done, after-refused}
+use Rattle.keystream.specs.declared.stream.Stream.{Stream}
+use Rattle.keystream.specs.Draws.{fresh, drawn, after}
+use Rattle.tag.specs.KeyVector.{vectorAnswer, vectorOut, keyVector}
+use Rattle.tag.proofs.StreamLaws.{vector-drawn}
+
+module _ (key id : List ℕ) (n m : ℕ) (out : List ℕ) {o : Outcome} (answer : o ≡ vectorAnswer key id n m out) where
+  pub vector-lengths : o ≡ Done → (length key ≡ 32) × (length id ≡ 8) × (length out ≡ n + m)
+  unfolding vectorAnswer
+  vector-lengths e =
+      let t = accepted _ _ _ (accepted _ _ _ (sym answer ∙ e) .1) .0 in
+      (same _ _ (any-first _ _ t), same _ _ (any-first _ _ (any-rest _ _ t)), same _ _ (any-first _ _ (any-rest _ _ (any-rest _ _ t))))
+
+  pub vector-written : o ≡ Done → {k nonce written : List ℕ} {s : Stream} → k ≡ key → nonce ≡ 1 ∷ 0 ∷ 0 ∷ 0 ∷ id → s ≡ fresh k nonce
+      → written ≡ tab (length out) (λ i. drawn (after i s) .byte) → written ≡ vectorOut key id n m out
+  unfolding vectorOut
+  vector-written e {k} {nonce} {written} {s} p q r w =
+      w ∙ rw (r, p, q, vector-lengths e .2) (vector-drawn (n + m) key id) ∙ sym (after-done out (tab (n + m) (keyVector key id)) (sym answer ∙ e))
+
+  pub vector-kept : {r : Refusal} → o ≡ Refused r → out ≡ vectorOut key id n m out
+  unfolding vectorOut
+  vector-kept e = sym (after-refused out (tab (n + m) (keyVector key id)) (sym answer ∙ e))
