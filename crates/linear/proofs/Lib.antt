@@ -1,0 +1,6 @@
+pub mod OpLaws
+pub mod EchelonLaws
+pub mod FactLaws
+pub mod StepLaws
+pub mod ArrayLaws
+pub mod RowLaws

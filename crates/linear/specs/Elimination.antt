@@ -1,0 +1,69 @@
+-- What elimination tells of k rows of m elements. A matrix is a function of row and column, both counted from 0.
+use Prim.Native.Nat.{ℕ, suc, _<_}
+use mathlib.Core.Path.{_≡_}
+use mathlib.Core.Logic.{_↔_, _≢_}
+use mathlib.Core.List.{List, []}
+use lib.ListN.{getD}
+use Rattle.lists.specs.Lists.{at}
+use Rattle.tag.specs.Vectors.{product, mixed}
+use Rattle.linear.specs.declared.Row.{Row}
+
+abbrev pub Matrix : Type 0
+Matrix = ℕ → ℕ → ℕ
+
+-- the matrix of an array of arrays, and of an array of rows
+abbrev pub cells : List (List ℕ) → Matrix
+cells a i j = at (getD a i []) j
+
+abbrev pub rowCells : List Row → Matrix
+rowCells a i j = at (getD a i (record { bytes = [] }) .bytes) j
+
+-- the first k elements are bytes
+abbrev pub BytesTo : ℕ → (ℕ → ℕ) → Type 0
+BytesTo k x = (i : ℕ) → i < k → x i < 256
+
+-- only the zero vector of m elements is orthogonal to all k rows
+abbrev pub Determining : ℕ → ℕ → Matrix → Type 0
+Determining k m a = (x : ℕ → ℕ) → BytesTo m x → ((j : ℕ) → j < k → product m (a j) x ≡ 0) → (i : ℕ) → i < m → x i ≡ 0
+
+-- only the combination of zeros of the k rows vanishes
+abbrev pub Independent : ℕ → ℕ → Matrix → Type 0
+Independent k m a = (y : ℕ → ℕ) → BytesTo k y → ((c : ℕ) → c < m → mixed k y a c ≡ 0) → (j : ℕ) → j < k → y j ≡ 0
+
+-- a non-zero vector of m bytes that is orthogonal to all k rows
+pub record Orthogonal (k m : ℕ) (a : Matrix) : Type 0 where
+  pub x : ℕ → ℕ
+  pub bytes : BytesTo m x
+  pub one : ℕ
+  pub one-there : one < m
+  pub one-not : x one ≢ 0
+  pub zero-products : (j : ℕ) → j < k → product m (a j) x ≡ 0
+
+-- a combination of the k rows that vanishes and is not that of zeros
+pub record Vanishing (k m : ℕ) (a : Matrix) : Type 0 where
+  pub y : ℕ → ℕ
+  pub bytes : BytesTo k y
+  pub one : ℕ
+  pub one-there : one < k
+  pub one-not : y one ≢ 0
+  pub zero-sums : (c : ℕ) → c < m → mixed k y a c ≡ 0
+
+-- the rank of k rows, and combinations t of them that solve for a vector where the rank is m
+pub record Reduces (k m : ℕ) (a t : Matrix) (rank : ℕ) : Type 0 where
+  pub determining : (rank ≡ m) ↔ Determining k m a
+  pub independent : (rank ≡ k) ↔ Independent k m a
+  -- rank below m: some non-zero vector is orthogonal to every row
+  pub blind : rank < m → Orthogonal k m a
+  -- rank below k: some combination vanishes
+  pub vanishing : rank < k → Vanishing k m a
+  -- rank m: what solves the rows' equations is t's combination of their right sides
+  pub solution : rank ≡ m → (x d : ℕ → ℕ) → BytesTo m x → BytesTo k d → ((j : ℕ) → j < k → product m (a j) x ≡ d j)
+      → (i : ℕ) → i < m → x i ≡ product k (t i) d
+  -- rank m of m rows: and that combination does solve them
+  pub solves : rank ≡ m → k ≡ m → (d : ℕ → ℕ) → BytesTo k d → (j : ℕ) → j < k → product m (a j) (λ i. product k (t i) d) ≡ d j
+
+-- a row that is not kept: where k rows are independent and a combination of k + 1 vanishes, the last is a combination of those before it
+abbrev pub LastIsCombined : Type 0
+LastIsCombined =
+    (k m : ℕ) (a : Matrix) → ((i j : ℕ) → a i j < 256) → Independent k m a → Vanishing (suc k) m a
+    → (c : ℕ → ℕ) × ((i : ℕ) → i < m → a k i ≡ mixed k c a i)
