@@ -228,6 +228,8 @@ module _ (k m : ℕ) (a e t : Matrix) (ab : (i j : ℕ) → a i j < 256) (R : Re
     pub reduces : Reduces k m a t r
     reduces =
         record {
+          at-most-columns = s .within;
+          at-most-rows = s .low;
           determining = (determines, λ g. by-columns g (decLt r m));
           independent = (independence, λ g. by-rows g (decLt r k));
           blind = blind;

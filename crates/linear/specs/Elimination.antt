@@ -1,5 +1,5 @@
 -- What elimination tells of k rows of m elements. A matrix is a function of row and column, both counted from 0.
-use Prim.Native.Nat.{ℕ, suc, _<_}
+use Prim.Native.Nat.{ℕ, suc, _<_, _≤_}
 use mathlib.Core.Path.{_≡_}
 use mathlib.Core.Logic.{_↔_, _≢_}
 use mathlib.Core.List.{List, []}
@@ -48,8 +48,12 @@ pub record Vanishing (k m : ℕ) (a : Matrix) : Type 0 where
   pub one-not : y one ≢ 0
   pub zero-sums : (c : ℕ) → c < m → mixed k y a c ≡ 0
 
--- the rank of k rows, and combinations t of them that solve for a vector where the rank is m
+-- the rank of k rows, as far as it decides something (whether it is m, whether it is k), and combinations t of them that solve for a
+-- vector where it is m
 pub record Reduces (k m : ℕ) (a t : Matrix) (rank : ℕ) : Type 0 where
+  -- so a rank that is not m, or not k, is below it
+  pub at-most-columns : rank ≤ m
+  pub at-most-rows : rank ≤ k
   pub determining : (rank ≡ m) ↔ Determining k m a
   pub independent : (rank ≡ k) ↔ Independent k m a
   -- rank below m: some non-zero vector is orthogonal to every row
