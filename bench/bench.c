@@ -1,5 +1,5 @@
-/* The two inner loops beside plain scalar C in one process: nanoseconds a keystream byte and a product, and whether the results
-   agree. Each pair is timed in turn, ROUNDS times, and the best round of each counts. PAD bytes shift the code: short loops
+/* The two inner loops, Setup and Unmask beside plain scalar C in one process: nanoseconds a keystream byte, a product and a call
+   at n = 1,024, and whether the results agree. Each pair is timed in turn, ROUNDS times, and the best round of each counts. PAD bytes shift the code: short loops
    run up to three times as long where they lie badly, on either side, so bench/run tries several places. */
 #include <stddef.h>
 #include <stdint.h>
@@ -9,12 +9,16 @@
 
 uint8_t loops_product(const uint8_t *a, size_t a_len, const uint8_t *b, size_t b_len);
 uint8_t loops_draw(const uint8_t *key, const uint8_t *nonce, size_t n);
+uint8_t span_setup(const uint8_t *tag_key, size_t tag_key_len, const uint8_t *mask_key, size_t mask_key_len, const uint8_t *id, size_t id_len,
+                   size_t n, uint8_t *auxiliary, size_t auxiliary_len);
+uint8_t span_unmask(size_t n, const uint8_t *id, size_t id_len, const uint8_t *mask_key, size_t mask_key_len, const uint8_t *response,
+                    size_t response_len, uint8_t *out, size_t out_len);
 
 #define TEXT(x) #x
 #define SKIP(n) __asm__(".text\n.skip " TEXT(n) "\n")
 SKIP(PAD);
 
-enum { ROUNDS = 7, VECTOR = 4096, REPEATS = 2048, BYTES = 1 << 22 };
+enum { ROUNDS = 7, VECTOR = 4096, REPEATS = 2048, BYTES = 1 << 22, N = 1024 };
 
 #define ROTL(x, k) (((x) << (k)) | ((x) >> (32 - (k))))
 #define QUARTER(a, b, c, d) \
@@ -79,6 +83,44 @@ __attribute__((noipa)) static uint8_t c_product(const uint8_t *a, const uint8_t 
     return total;
 }
 
+/* The first 64 times count bytes of a stream. */
+static void c_fill(const uint8_t *key, const uint8_t *nonce, uint8_t *out, size_t count) {
+    uint32_t s[16] = {0x61707865, 0x3320646e, 0x79622d32, 0x6b206574};
+    memcpy(s + 4, key, 32);
+    memcpy(s + 13, nonce, 12);
+    for (size_t j = 0; j < count; j++, s[12]++) block(s, out + 64 * j);
+}
+
+/* Mask row i, from 0. */
+static void c_row(const uint8_t *key, const uint8_t *id, size_t i, uint8_t *row) {
+    uint8_t nonce[12] = {2, 0, (uint8_t)((i + 1) >> 8), (uint8_t)(i + 1)};
+    memcpy(nonce + 4, id, 8);
+    c_fill(key, nonce, row, N / 64);
+}
+
+__attribute__((noipa)) static void c_setup(const uint8_t *tag_key, const uint8_t *mask_key, const uint8_t *id, uint8_t *auxiliary) {
+    uint8_t nonce[12] = {1}, vector[N], row[N];
+    memcpy(nonce + 4, id, 8);
+    c_fill(tag_key, nonce, vector, N / 64);
+    for (size_t i = 0; i < N - 1; i++) {
+        uint8_t total = 0;
+        c_row(mask_key, id, i, row);
+        for (size_t e = 0; e < N - 2; e++) total ^= c_multiply(row[e], vector[e]);
+        auxiliary[i] = total;
+    }
+}
+
+__attribute__((noipa)) static void c_unmask(const uint8_t *id, const uint8_t *mask_key, const uint8_t *response, uint8_t *out) {
+    uint8_t nonce[12] = {3}, coefficients[N], row[N];
+    memcpy(nonce + 1, response + N - 1, 11);
+    c_fill(mask_key, nonce, coefficients, N / 64);
+    memcpy(out, response + 1, N - 2);
+    for (size_t i = 0; i < N - 1; i++) {
+        c_row(mask_key, id, i, row);
+        for (size_t e = 0; e < N - 2; e++) out[e] ^= c_multiply(coefficients[i], row[e]);
+    }
+}
+
 static double now(void) {
     struct timespec t;
     clock_gettime(CLOCK_MONOTONIC, &t);
@@ -87,6 +129,33 @@ static double now(void) {
 
 static void report(const char *what, double rattle, double c, double units, int same) {
     printf("%s %.3f %.3f %s\n", what, rattle / units, c / units, same ? "equal" : "DIFFERENT");
+}
+
+/* One timed call of each side; the best counts. */
+#define TIMED(best, call)             \
+    do {                              \
+        double t = now();             \
+        call;                         \
+        t = now() - t;                \
+        if (t < best) best = t;       \
+    } while (0)
+
+static void masks(const uint8_t *key) {
+    static uint8_t id[8] = {1, 2, 3, 4, 5, 6, 7, 8}, response[N + 14] = {0x24}, x[N - 1], y[N - 1];
+    double setup[2] = {1e30, 1e30}, unmask[2] = {1e30, 1e30};
+    int same_setup = 1, same_unmask = 1;
+    for (int i = 1; i < N + 14; i++) response[i] = (uint8_t)(i * 29 + 5);
+    for (int r = 0; r < ROUNDS; r++) {
+        uint8_t refused = 0;
+        TIMED(setup[0], refused |= span_setup(key, 32, key, 32, id, 8, N, x, N - 1));
+        TIMED(setup[1], c_setup(key, key, id, y));
+        same_setup &= !refused && memcmp(x, y, N - 1) == 0;
+        TIMED(unmask[0], refused |= span_unmask(N, id, 8, key, 32, response, N + 14, x, N - 2));
+        TIMED(unmask[1], c_unmask(id, key, response, y));
+        same_unmask &= !refused && memcmp(x, y, N - 2) == 0;
+    }
+    report("setup", setup[0], setup[1], 1, same_setup);
+    report("unmask", unmask[0], unmask[1], 1, same_unmask);
 }
 
 int main(void) {
@@ -120,5 +189,6 @@ int main(void) {
     }
     report("keystream-byte", draw[0], draw[1], BYTES, same_draw);
     report("product", product[0], product[1], (double)VECTOR * REPEATS, same_product);
+    masks(key);
     return 0;
 }

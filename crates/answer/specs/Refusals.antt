@@ -1,5 +1,6 @@
 -- The first refusal in document 01's order, and what a lent buffer holds after the call.
 use Prim.Native.Nat.{ℕ}
+use mathlib.Core.Path.{_≡_}
 use mathlib.Core.Bool.{Bool, true, false, not}
 use mathlib.Core.List.{[], _∷_}
 use lib.Dec.{eqb, ltb}
@@ -12,6 +13,10 @@ use Rattle.answer.specs.declared.Outcome.the-variants.{Done, Refused}
 unfoldable pub refuse : Bool → Refusal → Outcome → Outcome
 refuse true r next = Refused r
 refuse false r next = next
+
+-- nothing is refused
+abbrev pub Passed : Outcome → Type 0
+Passed o = o ≡ Done
 
 -- "A refusal returns its number alone, and all lent memory keeps its bytes": the bytes before, or what the work writes
 unfoldable pub afterwards : {A : Type 0} → Outcome → A → A → A

@@ -1,6 +1,7 @@
 // What an operation answers: done, or the first refusal of document 01 that applies.
 ghost use mathlib.Core.Path.{_≡_};
 ghost use Rattle.answer.specs.Numbers.{refusalNumber, outcomeNumber};
+ghost use Rattle.answer.specs.Refusals as Refusals;
 
 // The ten refusals, in the order of document 01's numbers, from 1.
 pub enum Refusal {
@@ -29,6 +30,13 @@ pub enum Refusal {
 pub enum Outcome {
     Done,
     Refused(Refusal),
+}
+
+// Whether x is below lo or above hi.
+pub fn outside(lo: usize, hi: usize, x: usize) -> bool
+    ensures { λ r. ⌜ r ≡ Refusals.outside lo hi x ⌝ }
+{
+    (x < lo) | (hi < x)
 }
 
 // Document 01's number of a refusal.

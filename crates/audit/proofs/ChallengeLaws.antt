@@ -17,12 +17,13 @@ use Rattle.answer.proofs.RefusalLaws.{accepted, same, inside}
 use Rattle.bits.specs.Fields.{Field, _wide_, widths, number, bytesFor, fieldAt}
 use Rattle.bits.proofs.NumberLaws.{number-same}
 use Rattle.bits.proofs.PackLaws.{pack-length, pack-field, pack-spare}
+use Rattle.bits.proofs.AppendLaws.{widths-more}
 use Rattle.audit.specs.Challenge.{Challenge, items, challengeFields, challengeBytes, challengeBits, challengeLength, outOfRule, challengeIn, challengeOf, malformedFor, malformedChallenge, challengeAnswer, challengeOut}
 
 -- ---- items
 
 -- the items from i on, split after the first j
-items-split : (c : Challenge) (i j k : ℕ) → items c i (j + k) ≡ items c i j ++ items c (i + j) k
+pub items-split : (c : Challenge) (i j k : ℕ) → items c i (j + k) ≡ items c i j ++ items c (i + j) k
 unfolding items
 items-split c i zero k = let q : 0 + k ≡ k = omega arith in rw (q, add-zero)
 items-split c i (suc j) k = rw (suc-add j k, items-split c (suc i) j k, add-suc i j, suc-add i j)
@@ -37,6 +38,10 @@ unfolding number
 number-none zero = refl
 number-none (suc w) = rw (number-none w)
 
+-- the fields before item j
+abbrev pub fieldsBefore : Challenge → ℕ → List Field
+fieldsBefore c j = (4 wide 1) ∷ (3 wide c .node) ∷ (4 wide length (c .places)) ∷ items c 0 j
+
 -- ---- a challenge in rule
 
 pub record InRule (c : Challenge) : Type 0 where
@@ -45,7 +50,7 @@ pub record InRule (c : Challenge) : Type 0 where
   pub few : length (c .places) ≤ 8
   pub places-low : (j : ℕ) → j < length (c .places) → at (c .places) j ≤ 7
 
-pub in-rule : (c : Challenge) → outOfRule c ≡ false → InRule c
+pub in-rule : (c : Challenge) → outOfRule (c .node) (c .places) ≡ false → InRule c
 unfolding outOfRule
 in-rule c e =
     let two = any-rest _ _ e in
@@ -57,11 +62,6 @@ in-rule c e =
       places-low = λ j h. ltb-false 7 (at (c .places) j) (any-below (length (c .places)) _ (any-first _ _ three) j h);
     }
 
-widths-append : (a b : List Field) → widths (a ++ b) ≡ widths a + widths b
-unfolding widths
-widths-append [] b = omega arith
-widths-append (f ∷ a) b = rw (widths-append a b) (omega arith)
-
 -- ---- it is read back
 
 module _ (c : Challenge) (R : InRule c) (even : length (c .coefficients) ≡ length (c .places))
@@ -72,9 +72,8 @@ module _ (c : Challenge) (R : InRule c) (even : length (c .coefficients) ≡ len
   abbrev s : List ℕ
   s = challengeBytes c
 
-  -- the fields before item j
   abbrev before : ℕ → List Field
-  before j = (4 wide 1) ∷ (3 wide c .node) ∷ (4 wide count) ∷ items c 0 j
+  before = fieldsBefore c
 
   before-width : (j : ℕ) → widths (before j) ≡ challengeBits j
   unfolding widths
@@ -113,7 +112,7 @@ module _ (c : Challenge) (R : InRule c) (even : length (c .coefficients) ≡ len
 
   with-place : (j : ℕ) → widths (before j ++ ((3 wide at (c .places) j) ∷ [])) ≡ challengeBits j + 3
   unfolding widths
-  with-place j = widths-append (before j) ((3 wide at (c .places) j) ∷ []) ∙ rw (items-width c 0 j) (omega arith)
+  with-place j = widths-more (before j) (3 wide at (c .places) j) ∙ rw (items-width c 0 j) (omega arith)
 
   coefficient-back : (j : ℕ) → j < count → fieldAt s (challengeBits j + 3) 8 ≡ at (c .coefficients) j
   unfolding challengeBytes
@@ -139,7 +138,7 @@ module _ (c : Challenge) (R : InRule c) (even : length (c .coefficients) ≡ len
       (λ i h. pack-spare (challengeFields c) (challengeBits count + i) (omega (arith, before-width count)))
       ∙ number-none (8 * challengeLength count - challengeBits count)
 
-  pub well-formed : outOfRule c ≡ false → malformedChallenge s ≡ false
+  pub well-formed : outOfRule (c .node) (c .places) ≡ false → malformedChallenge s ≡ false
   unfolding malformedFor anyOf
   well-formed r =
       rw (challenge-back, kind-back, r, bytes-length, spare-back, eq-eqb (challengeLength count) (challengeLength count) refl)
@@ -151,7 +150,7 @@ module _ (c : Challenge) (message : List ℕ) (asked : challengeAnswer c message
   unfolding challengeAnswer
   asked-even = same _ _ (accepted _ _ _ asked .0)
 
-  pub asked-rule : outOfRule c ≡ false
+  pub asked-rule : outOfRule (c .node) (c .places) ≡ false
   unfolding challengeAnswer
   asked-rule = accepted _ _ _ (accepted _ _ _ asked .1) .0
 

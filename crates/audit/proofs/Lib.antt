@@ -1,2 +1,6 @@
 pub mod ChallengeLaws
 pub mod VerdictLaws
+pub mod RuleLaws
+pub mod MessageLaws
+pub mod ReadLaws
+pub mod JudgeLaws

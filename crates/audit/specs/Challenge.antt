@@ -18,6 +18,9 @@ pub record Challenge : Type 0 where
   pub places : List ℕ
   pub coefficients : List ℕ
 
+abbrev pub challengeFor : ℕ → List ℕ → List ℕ → Challenge
+challengeFor node places coefficients = record { node = node; places = places; coefficients = coefficients }
+
 -- `count` items, from item i on
 unfoldable pub items : Challenge → ℕ → ℕ → List Field
 items c i zero = []
@@ -37,13 +40,13 @@ abbrev pub challengeLength : ℕ → ℕ
 challengeLength count = bytesFor (challengeBits count)
 
 -- "fields out of rule": a node above 5, no item or more than 8, a place above 7, places that do not rise strictly
-unfoldable pub outOfRule : Challenge → Bool
-outOfRule c =
+unfoldable pub outOfRule : ℕ → List ℕ → Bool
+outOfRule node places =
     anyOf
-    (ltb 5 (c .node)
-    ∷ outside 1 8 (length (c .places))
-    ∷ anyBelow (length (c .places)) (λ j. ltb 7 (at (c .places) j))
-    ∷ anyBelow (length (c .places) - 1) (λ j. leb (at (c .places) (j + 1)) (at (c .places) j))
+    (ltb 5 node
+    ∷ outside 1 8 (length places)
+    ∷ anyBelow (length places) (λ j. ltb 7 (at places j))
+    ∷ anyBelow (length places - 1) (λ j. leb (at places (j + 1)) (at places j))
     ∷ [])
 
 -- ---- reading a message
@@ -65,7 +68,7 @@ unfoldable pub malformedFor : Challenge → List ℕ → Bool
 malformedFor c message =
     anyOf
     (differs (fieldAt message 0 4) 1
-    ∷ outOfRule c
+    ∷ outOfRule (c .node) (c .places)
     ∷ differs (length message) (challengeLength (length (c .places)))
     ∷ differs (fieldAt message (challengeBits (length (c .places))) (8 * challengeLength (length (c .places)) - challengeBits (length (c .places)))) 0
     ∷ [])
@@ -78,7 +81,7 @@ malformedChallenge message = malformedFor (challengeOf message) message
 unfoldable pub challengeAnswer : Challenge → List ℕ → Outcome
 challengeAnswer c message =
     refuse (differs (length (c .coefficients)) (length (c .places))) Length
-    (refuse (outOfRule c) Malformed
+    (refuse (outOfRule (c .node) (c .places)) Malformed
     (refuse (differs (length message) (challengeLength (length (c .places)))) Length
     Done))
 

@@ -79,8 +79,8 @@ field-low s from w = number-low (λ i. bitAt s (from + i)) w
 pub field-small : (s : List ℕ) (from w x : ℕ) → x ≡ fieldAt s from w → w ≤ 16 → x < 65536
 field-small s from w x e h = omega (arith, field-low s from w, pow-mono {i = w} {j = 16} h)
 
--- fields in a row: the bits of the first, of the later ones, and past the last
-bits-here : (f : Field) (fs : List Field) (i : ℕ) → i < f .width → bitsOf (f ∷ fs) i ≡ bitOf (f .width) (f .value) i
+-- fields in a row: the bits of the first, of the earlier ones, of the later ones, and past the last
+pub bits-here : (f : Field) (fs : List Field) (i : ℕ) → i < f .width → bitsOf (f ∷ fs) i ≡ bitOf (f .width) (f .value) i
 unfolding bitsOf
 bits-here f fs i h = rw (lt-ltb i (f .width) h)
 
@@ -90,14 +90,23 @@ bits-skip f fs k =
     let q : f .width + k - f .width ≡ k = omega arith in
     rw (le-ltb (f .width + k) (f .width) (omega arith), q)
 
-bits-rest : (before rest : List Field) (k : ℕ) → bitsOf (before ++ rest) (widths before + k) ≡ bitsOf rest k
+pub bits-front : (before rest : List Field) (k : ℕ) → k < widths before → bitsOf (before ++ rest) k ≡ bitsOf before k
+unfolding widths bitsOf
+bits-front [] rest k h = absurd (omega arith)
+bits-front (f ∷ before) rest k h =
+    ⊎-elim
+    (λ (l : k < f .width). bits-here f (before ++ rest) k l ∙ sym (bits-here f before k l))
+    (λ (l : f .width ≤ k). rw (le-ltb k (f .width) l) (bits-front before rest (k - f .width) (omega arith)))
+    (order k (f .width))
+
+pub bits-rest : (before rest : List Field) (k : ℕ) → bitsOf (before ++ rest) (widths before + k) ≡ bitsOf rest k
 unfolding widths
 bits-rest [] rest k = let q : 0 + k ≡ k = omega arith in rw q refl
 bits-rest (f ∷ before) rest k =
     let q : f .width + widths before + k ≡ f .width + (widths before + k) = omega arith in
     ap (bitsOf (f ∷ (before ++ rest))) q ∙ bits-skip f (before ++ rest) (widths before + k) ∙ bits-rest before rest k
 
-bits-past : (fs : List Field) (k : ℕ) → widths fs ≤ k → bitsOf fs k ≡ false
+pub bits-past : (fs : List Field) (k : ℕ) → widths fs ≤ k → bitsOf fs k ≡ false
 unfolding widths bitsOf
 bits-past [] k h = refl
 bits-past (f ∷ fs) k h = rw (le-ltb k (f .width) (omega arith)) (bits-past fs (k - f .width) (omega arith))

@@ -21,11 +21,22 @@ fn exp(powers: &[u8; 510], k: usize) -> u8
 }
 
 // The logarithm of a, where a is not zero.
-fn log(logs: &[u8; 256], a: u8) -> usize
+pub fn log(logs: &[u8; 256], a: u8) -> usize
     requires { ⌜ LogTable (now logs) ⌝ }
     ensures { λ r. ⌜ (r < 255) × (0 < a → power 3 r ≡ a) ⌝ }
 {
     lists::widen(logs[lists::widen(a)])
+}
+
+// 03 to the k times b: for loops over b, with k the logarithm of an element that stays.
+pub fn raised(powers: &[u8; 510], logs: &[u8; 256], k: usize, b: u8) -> u8
+    requires { ⌜ PowerTable (now powers) × LogTable (now logs) × (k < 255) ⌝ }
+    ensures { λ r. ⌜ r ≡ times (power 3 k) b ⌝ }
+{
+    if b == 0 {
+        return 0;
+    }
+    exp(powers, k + log(logs, b))
 }
 
 // The product over lent tables, for loops.
@@ -36,10 +47,7 @@ pub fn product(powers: &[u8; 510], logs: &[u8; 256], a: u8, b: u8) -> u8
     if a == 0 {
         return 0;
     }
-    if b == 0 {
-        return 0;
-    }
-    exp(powers, log(logs, a) + log(logs, b))
+    raised(powers, logs, log(logs, a), b)
 }
 
 // The product.

@@ -1,12 +1,16 @@
 -- Laws of the block function. Assumes nothing.
-use Prim.Native.Nat.{ℕ, _+_, _*_, _/_, _%_, _^_}
-use mathlib.Core.Path.{_≡_}
+use Prim.Native.Nat.{ℕ, _+_, _*_, _/_, _%_, _<_}
+use mathlib.Core.Path.{_≡_, refl, sym, ap, _∙_}
 use mathlib.Core.List.{List}
-use native.Mathlib.Nat.{mul-comm}
 use native.Mathlib.Numerals.{add-one}
+use native.Mathlib.Omega.{arith}
 use lib.Bits.{bitXor}
+use lib.ListN.{length}
+use Rattle.lists.specs.Lists.{at, put}
+use Rattle.lists.proofs.TabLaws.{length-tab, tab-at, elements}
+use Rattle.lists.proofs.PutLaws.{put-all}
 use Rattle.keystream.specs.declared.chacha.Four.{Four}
-use Rattle.keystream.specs.ChaCha.{add32, rotl, byteOf, half, quartersTo, rounds}
+use Rattle.keystream.specs.ChaCha.{add32, rotl, byteOf, half, quartersTo, rounds, blockWords, serialised, start, blockOf}
 
 -- the words that two half rounds compute, one by one
 pub halves : (j k l m : ℕ) (f : Four) {a1 d1 c1 b1 a2 d2 c2 b2 : ℕ}
@@ -21,6 +25,21 @@ pub round-more : (i : ℕ) (s : List ℕ) {t r : List ℕ} → t ≡ rounds i s 
 unfolding rounds
 round-more i s p q = rw add-one (cc)
 
--- byte r of a number, by a shift of r * 8 bits
-pub shifted : (x r : ℕ) → x / 2 ^ (r * 8) % 256 ≡ byteOf x r
-shifted x r = rw (mul-comm r 8)
+serialised-length : (w : List ℕ) → length (serialised w) ≡ 64
+unfolding serialised
+serialised-length w = length-tab 64 _
+
+-- byte i of word k of the serialised words
+pub serialised-at : (w : List ℕ) (k i : ℕ) → k < 16 → i < 4 → byteOf (at w k) i ≡ at (serialised w) (4 * k + i)
+unfolding serialised
+serialised-at w k i h l =
+    let q : (4 * k + i) / 4 ≡ k = omega arith in
+    let r : (4 * k + i) % 4 ≡ i = omega arith in
+    sym (tab-at 64 _ (4 * k + i) (omega arith) ∙ rw (q, r) refl)
+
+-- 64 bytes that a block's words were stored in are the block
+pub block-stored : (key : List ℕ) (counter : ℕ) (nonce out : List ℕ) {w b r : List ℕ} → length out ≡ 64 → w ≡ start key counter nonce → b ≡ blockWords w
+    → r ≡ put 64 0 (at (serialised b)) out → r ≡ blockOf key counter nonce
+unfolding blockOf
+block-stored key counter nonce out l e h s =
+    s ∙ put-all 64 (at (serialised _)) out l ∙ elements 64 (serialised _) (serialised-length _) ∙ ap serialised (h ∙ ap blockWords e)

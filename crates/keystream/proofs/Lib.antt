@@ -1,2 +1,3 @@
 pub mod ChaChaLaws
 pub mod DrawLaws
+pub mod FillLaws

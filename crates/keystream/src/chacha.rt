@@ -1,9 +1,10 @@
 // The block function of RFC 8439, section 2.3.
 ghost use mathlib.Core.Path.{_≡_};
-ghost use Prim.Native.Nat.{_+_, _<_, _≤_};
+ghost use Prim.Native.Nat.{_+_, _*_, _<_, _≤_};
 ghost use lib.ListN.{length, getD};
-ghost use Rattle.keystream.specs.ChaCha.{rotl, quarterOf, quarterBy, quartersTo, rounds, blockWords, wordAt, start, serialised};
-ghost use Rattle.keystream.specs.Draws.{pairsOf};
+ghost use Rattle.lists.specs.Lists.{at, put};
+ghost use Rattle.keystream.specs.ChaCha.{rotl, quarterOf, quarterBy, quartersTo, rounds, blockWords, wordAt, start, byteOf, serialised};
+ghost use Rattle.keystream.specs.Draws.{pairsOf, byteAt};
 ghost use Rattle.keystream.specs.Block.{blockAnswer, blockOut};
 use answer::Outcome;
 use answer::Refusal;
@@ -171,14 +172,36 @@ pub fn start_state(key: &[u8], counter: u32, nonce: &[u8]) -> [u32; 16]
     ]
 }
 
-// The 64 bytes of 16 words, the lowest byte of each first.
-fn spread(w: [u32; 16], out: &mut [u8])
-    requires { ⌜ length (now out) ≡ 64 ⌝ }
-    ensures { λ _. ⌜ now (out .exit) ≡ serialised w ⌝ }
+// The four bytes of a word from `from` on, the lowest first: written out, so that the compiler makes one store of them.
+fn store_word(out: &mut [u8], from: usize, x: u32)
+    requires { ⌜ from + 4 ≤ length (now out) ⌝ }
+    ensures { λ _. ⌜ now (out .exit) ≡ put 4 from (byteOf x) (now (out .entry)) ⌝ }
 {
-    for i in 0..64 {
-        let r = i % 4 * 8;
-        out[i] = ((w[i / 4] >> r) % 256) as u8;
+    out[from] = (x % 256) as u8;
+    out[from + 1] = (x / 256 % 256) as u8;
+    out[from + 2] = (x / 65536 % 256) as u8;
+    out[from + 3] = (x / 16777216 % 256) as u8;
+}
+
+// The 64 bytes of 16 words from `from` on.
+fn spread(w: [u32; 16], out: &mut [u8], from: usize)
+    requires { ⌜ from + 64 ≤ length (now out) ⌝ }
+    ensures { λ _. ⌜ now (out .exit) ≡ put 64 from (at (serialised w)) (now (out .entry)) ⌝ }
+{
+    for k in 0..16 {
+        store_word(out, from + k * 4, w[k]);
+    }
+}
+
+// The first 64 times `count` bytes of the stream, block by block, at the front of out.
+pub fn fill(key: [u8; 32], nonce: [u8; 12], out: &mut [u8], count: usize)
+    requires { ⌜ 64 * count ≤ length (now out) ⌝ }
+    ensures { λ _. ⌜ now (out .exit) ≡ put (64 * count) 0 (byteAt key nonce) (now (out .entry)) ⌝ }
+{
+    let mut w = start_state(&key, 0, &nonce);
+    for j in 0..count {
+        spread(block_words(w), out, j * 64);
+        w[12] = std::num::wrapping_add_u32(w[12], 1);
     }
 }
 
@@ -196,6 +219,6 @@ pub fn block(key: &[u8], counter: u32, nonce: &[u8], out: &mut [u8]) -> Outcome
     if out.len() != 64 {
         return Outcome::Refused(Refusal::Length);
     }
-    spread(block_words(start_state(key, counter, nonce)), out);
+    spread(block_words(start_state(key, counter, nonce)), out, 0);
     Outcome::Done
 }

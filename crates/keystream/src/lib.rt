@@ -4,6 +4,7 @@ mod stream;
 
 pub use chacha::Four;
 pub use chacha::block;
+pub use chacha::fill;
 pub use chacha::quarter_round;
 pub use stream::Drawn;
 pub use stream::Stream;

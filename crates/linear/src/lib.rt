@@ -44,20 +44,6 @@ fn swapped(a: [[u8; 16]; 16], i: usize, j: usize) -> [[u8; 16]; 16]
     out
 }
 
-// A row times c.
-fn scaled_row(powers: &[u8; 510], logs: &[u8; 256], v: [u8; 16], c: u8) -> [u8; 16]
-    requires { ⌜ PowerTable (now powers) × LogTable (now logs) ⌝ }
-    ensures { λ r. ⌜ ((j : ℕ) → j < 16 → at r j ≡ times c (at v j)) ⌝ }
-{
-    let mut out = v;
-    let mut j = 0;
-    'columns: while j < 16 {
-        out[j] = field::product(powers, logs, c, v[j]);
-        j += 1;
-    }
-    out
-}
-
 // The row v and c times the row w, added.
 fn added_row(powers: &[u8; 510], logs: &[u8; 256], v: [u8; 16], w: [u8; 16], c: u8) -> [u8; 16]
     requires { ⌜ PowerTable (now powers) × LogTable (now logs) ⌝ }
@@ -85,7 +71,7 @@ fn scaled(
 {
     let mut out = a;
     let v = a[r];
-    out[r] = scaled_row(powers, logs, v, c);
+    out[r] = added_row(powers, logs, [0u8; 16], v, c);
     out
 }
 
@@ -219,13 +205,7 @@ pub fn dot(v: Row, d: Row, k: usize) -> u8
     let logs = pair.logs;
     let x = v.bytes;
     let y = d.bytes;
-    let mut sum = 0u8;
-    let mut j = 0;
-    'columns: while j < k {
-        sum = sum ^ field::product(&powers, &logs, x[j], y[j]);
-        j += 1;
-    }
-    sum
+    tag::product_of(&powers, &logs, &x, &y, k)
 }
 
 // Carries the law of a row that is not kept: without its proof the crate is not proved.

@@ -1,8 +1,8 @@
 -- Laws of `anyOf` and `anyBelow`. Assumes nothing.
 use Prim.Native.Nat.{ℕ, zero, suc, _<_}
-use mathlib.Core.Path.{_≡_, refl}
-use mathlib.Core.Bool.{Bool, true, false}
-use mathlib.Core.List.{List, _∷_}
+use mathlib.Core.Path.{_≡_, refl, sym}
+use mathlib.Core.Bool.{Bool, true, false, _||_}
+use mathlib.Core.List.{List, [], _∷_}
 use native.Mathlib.Omega.{arith}
 use native.Mathlib.Decide.{ℕ-discrete}
 use Rattle.lists.specs.Lists.{pick, anyOf, anyBelow}
@@ -27,6 +27,25 @@ any-below (suc n) f e i h =
     let w : (f n ≡ false) × (anyBelow n f ≡ false) = either-false (f n) (anyBelow n f) e in
     elim (ℕ-discrete i n) [ yes q ↦ rw q (w .0) | no q ↦ any-below n f (w .1) i (omega arith) ]
 
+-- the first holds, one of the rest holds, the first does not; the only one
+pub any-here : (a : Bool) (ts : List Bool) → a ≡ true → anyOf (a ∷ ts) ≡ true
+unfolding anyOf
+any-here a ts e = rw e
+
+pub any-there : (a : Bool) (ts : List Bool) → anyOf ts ≡ true → anyOf (a ∷ ts) ≡ true
+unfolding anyOf
+any-there true ts e = refl
+any-there false ts e = e
+
+pub any-skip : (a : Bool) (ts : List Bool) → a ≡ false → anyOf (a ∷ ts) ≡ anyOf ts
+unfolding anyOf
+any-skip a ts e = rw e
+
+pub any-last : (a : Bool) → anyOf (a ∷ []) ≡ a
+unfolding anyOf
+any-last true = refl
+any-last false = refl
+
 -- two tests that agree below n
 pub any-same : (n : ℕ) (f g : ℕ → Bool) → ((i : ℕ) → i < n → f i ≡ g i) → anyBelow n f ≡ anyBelow n g
 unfolding anyBelow
@@ -38,3 +57,34 @@ pub any-none : (n : ℕ) (f : ℕ → Bool) → ((i : ℕ) → i < n → f i ≡
 unfolding anyBelow
 any-none zero f h = refl
 any-none (suc n) f h = rw (h n (omega arith)) (any-none n f (λ i l. h i (omega arith)))
+
+-- one holds
+pub any-some : (n : ℕ) (f : ℕ → Bool) (i : ℕ) → i < n → f i ≡ true → anyBelow n f ≡ true
+unfolding anyBelow
+any-some zero f i h e = absurd (omega arith)
+any-some (suc n) f i h e =
+    elim (ℕ-discrete i n) [ yes q ↦ rw (← q, e) | no q ↦ rw (any-some n f i (omega arith) e) (go (f n)) ]
+  where
+    go : (t : Bool) → pick t true true ≡ true
+    go true = refl
+    go false = refl
+
+pub or-false : (a b : Bool) → (a || b) ≡ false → (a ≡ false) × (b ≡ false)
+or-false true b e = let q : _≡_ {A = ℕ} 0 1 = cc in absurd (omega arith)
+or-false false b e = (refl, e)
+
+-- a list of tests, as code writes it: from the first to the last
+pub any-two : (a b : Bool) → (a || b) ≡ anyOf (a ∷ b ∷ [])
+unfolding anyOf
+any-two true b = refl
+any-two false b = sym (any-last b)
+
+pub any-three : (a b c : Bool) → ((a || b) || c) ≡ anyOf (a ∷ b ∷ c ∷ [])
+unfolding anyOf
+any-three true b c = refl
+any-three false b c = any-two b c
+
+pub any-four : (a b c d : Bool) → (((a || b) || c) || d) ≡ anyOf (a ∷ b ∷ c ∷ d ∷ [])
+unfolding anyOf
+any-four true b c d = refl
+any-four false b c d = any-three b c d

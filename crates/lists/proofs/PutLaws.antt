@@ -1,14 +1,15 @@
 -- Laws of stores in a row (`put`), rows of stores (`grid`) and rows of values (`flat`). Assumes nothing.
-use Prim.Native.Nat.{ℕ, zero, suc, _+_, _*_, _<_, _≤_}
-use mathlib.Core.Path.{_≡_, refl, _∙_}
+use Prim.Native.Nat.{ℕ, zero, suc, _+_, _-_, _*_, _<_, _≤_}
+use mathlib.Core.Path.{_≡_, refl, sym, ap, _∙_}
 use mathlib.Core.List.{List, _++_}
 use mathlib.Core.Logic.{⊎-elim}
 use native.Mathlib.Omega.{arith}
-use native.Mathlib.Nat.{eq-or-lt-of-le, mul-le-mul-right}
-use lib.ListN.{length, length-set, length-append, List·getD-append}
-use lib.Seq.{getD-set-same, getD-set-other, getD-append-add}
+use native.Mathlib.Nat.{eq-or-lt-of-le, mul-le-mul-right, add-zero, add-suc}
+use native.Mathlib.Numerals.{add-one}
+use lib.ListN.{length, set, length-set, length-append, List·getD-append}
+use lib.Seq.{getD-set-same, getD-set-other, getD-append-add, ext-getD}
 use Rattle.lists.specs.Lists.{at, tab, flat, put, grid}
-use Rattle.lists.proofs.TabLaws.{length-tab, tab-at, tab-same}
+use Rattle.lists.proofs.TabLaws.{order, length-tab, tab-at, is-tab, tab-same}
 
 pub length-put : (n from : ℕ) (f : ℕ → ℕ) (d : List ℕ) → length (put n from f d) ≡ length d
 unfolding put
@@ -35,6 +36,58 @@ put-at (suc n) from f d j h r =
     (λ (e : j ≡ n). rw e (getD-set-same (put n from f d) (from + n) (f n) 0 (omega (arith, length-put n from f d))))
     (λ (l : j < n). getD-set-other (put n from f d) (from + n) (from + j) (f n) 0 (λ e. omega arith) ∙ put-at n from f d j l (omega arith))
     (eq-or-lt-of-le {n = j} {m = n} (omega arith))
+
+-- no store; one more; as many again behind them
+pub put-none : (from : ℕ) (f : ℕ → ℕ) (d : List ℕ) → d ≡ put 0 from f d
+unfolding put
+put-none from f d = refl
+
+pub put-more : (n from : ℕ) (f : ℕ → ℕ) (d : List ℕ) {s : List ℕ} {k v : ℕ} → s ≡ put n from f d → k ≡ from + n → v ≡ f n → set s k v ≡ put (n + 1) from f d
+unfolding put
+put-more n from f d e h g = rw (add-one, e, h, g)
+
+pub put-put : (n m from : ℕ) (f : ℕ → ℕ) (d : List ℕ) → put m (from + n) (λ i. f (n + i)) (put n from f d) ≡ put (n + m) from f d
+unfolding put
+put-put n zero from f d = rw (add-zero n)
+put-put n (suc m) from f d =
+    let q : from + n + m ≡ from + (n + m) = omega arith in
+    rw (add-suc n m, put-put n m from f d, q)
+
+-- equal values
+pub put-same : (n from : ℕ) (f g : ℕ → ℕ) (d : List ℕ) → ((i : ℕ) → i < n → f i ≡ g i) → put n from f d ≡ put n from g d
+unfolding put
+put-same zero from f g d h = refl
+put-same (suc n) from f g d h = rw (put-same n from f g d (λ i l. h i (omega arith)), h n (omega arith))
+
+-- other values in the same places
+pub put-again : (n from : ℕ) (f g : ℕ → ℕ) (d : List ℕ) → from + n ≤ length d → put n from f (put n from g d) ≡ put n from f d
+put-again n from f g d l =
+    let long : from + n ≤ length (put n from g d) = rw length-put l in
+    ext-getD 0 _ _ (simp length-put) (λ (k : ℕ) h.
+    ⊎-elim
+    (λ (a : k < from). put-below n from f (put n from g d) k a ∙ put-below n from g d k a ∙ sym (put-below n from f d k a))
+    (λ (a : from ≤ k).
+    ⊎-elim
+    (λ (b : k < from + n).
+    let q : k ≡ from + (k - from) = omega arith in
+    rw q (put-at n from f (put n from g d) (k - from) (omega arith) long ∙ sym (put-at n from f d (k - from) (omega arith) l)))
+    (λ (b : from + n ≤ k). put-above n from f (put n from g d) k b ∙ put-above n from g d k b ∙ sym (put-above n from f d k b))
+    (order k (from + n)))
+    (order k from))
+
+-- k blocks of n stores are made: one block more
+pub put-block : (n k from : ℕ) (f g : ℕ → ℕ) (d : List ℕ) {s t : List ℕ} {place : ℕ} → s ≡ put (n * k) from f d → place ≡ from + n * k
+    → t ≡ put n place g s → ((i : ℕ) → i < n → g i ≡ f (n * k + i)) → t ≡ put (n * (k + 1)) from f d
+put-block n k from f g d e h w v =
+    let q : n * (k + 1) ≡ n * k + n = omega arith in
+    w ∙ rw (e, h, q) (put-same n (from + n * k) g (λ i. f (n * k + i)) (put (n * k) from f d) v ∙ put-put (n * k) n from f d)
+
+-- stores at the front, and in a whole list
+pub put-front : (n : ℕ) (f : ℕ → ℕ) (d : List ℕ) (i : ℕ) → i < n → n ≤ length d → at (put n 0 f d) i ≡ f i
+put-front n f d i h l = let q : i ≡ 0 + i = omega arith in ap (at (put n 0 f d)) q ∙ put-at n 0 f d i h (omega arith)
+
+pub put-all : (n : ℕ) (f : ℕ → ℕ) (d : List ℕ) → length d ≡ n → put n 0 f d ≡ tab n f
+put-all n f d e = is-tab n f (put n 0 f d) (length-put n 0 f d ∙ e) (λ i h. put-front n f d i h (omega arith))
 
 pub length-grid : (n m from : ℕ) (f : ℕ → ℕ → ℕ) (d : List ℕ) → length (grid n m from f d) ≡ length d
 unfolding grid

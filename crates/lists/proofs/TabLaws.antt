@@ -35,6 +35,10 @@ is-tab n f s l h =
     ext-getD 0 s (tab n f) (l ∙ sym (length-tab n f))
     (λ (i : ℕ) (g : i < length s). let k : i < n = omega arith in h i k ∙ sym (tab-at n f i k))
 
+-- a list is made of its elements
+pub elements : (n : ℕ) (s : List ℕ) → length s ≡ n → tab n (at s) ≡ s
+elements n s e = sym (is-tab n (at s) s e (λ i h. refl))
+
 pub tab-same : (n : ℕ) (f g : ℕ → ℕ) → ((i : ℕ) → i < n → f i ≡ g i) → tab n f ≡ tab n g
 tab-same n f g e = is-tab n g (tab n f) (length-tab n f) (λ i h. tab-at n f i h ∙ e i h)
 

@@ -1,9 +1,10 @@
-// The two inner loops that the benchmark measures, for C to call: proved callers of field and keystream.
+// The two inner loops that the benchmark measures, for C to call.
 ghost use mathlib.Core.Path.{_≡_};
 ghost use Prim.Native.Nat.{min};
 ghost use lib.ListN.{length};
 ghost use Rattle.lists.specs.Lists.{at};
-ghost use Rattle.field.specs.Field.{sum, times};
+ghost use Rattle.field.specs.Field.{sum};
+ghost use Rattle.tag.specs.Vectors.{product};
 ghost use Rattle.keystream.specs.Draws.{byteAt};
 use keystream::Stream;
 
@@ -16,17 +17,13 @@ fn shorter(a: usize, b: usize) -> usize
 // The product of two vectors: the sum of the products of their elements, as many as the shorter has.
 #[no_mangle]
 pub extern "C" fn loops_product(a: &[u8], b: &[u8]) -> u8
-    ensures { λ r. ⌜ r ≡ sum (min (length (now (a .entry))) (length (now (b .entry)))) (λ i. times (at (now (a .entry)) i) (at (now (b .entry)) i)) ⌝ }
+    ensures { λ r. ⌜ r ≡ product (min (length (now (a .entry))) (length (now (b .entry)))) (at (now (a .entry))) (at (now (b .entry))) ⌝ }
 {
     let t = field::tables();
     let powers = t.powers;
     let logs = t.logs;
     let n = shorter(a.len(), b.len());
-    let mut total = 0u8;
-    for i in 0..n {
-        total = total ^ field::product(&powers, &logs, a[i], b[i]);
-    }
-    total
+    tag::product_of(&powers, &logs, a, b, n)
 }
 
 // The sum of the first n bytes of a stream.

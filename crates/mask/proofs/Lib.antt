@@ -1,2 +1,5 @@
 pub mod MaskLaws
 pub mod ResponseLaws
+pub mod UnmaskLaws
+pub mod RowLaws
+pub mod OperationLaws

@@ -1,19 +1,20 @@
 -- A response is read back as it was written. Assumes nothing.
-use Prim.Native.Nat.{ℕ, _+_, _-_, _<_, _≤_}
+use Prim.Native.Nat.{ℕ, _+_, _-_, _*_, _<_, _≤_}
 use mathlib.Core.Path.{_≡_, sym, ap, _∙_}
 use mathlib.Core.List.{List, [], _∷_, _++_, append-assoc}
 use mathlib.Core.Logic.{⊎-elim}
 use native.Mathlib.Omega.{arith}
 use lib.Bits.{xor-zero-r}
-use lib.Dec.{ltb}
+use lib.Dec.{T, ltb, eqb, eqb→eq}
 use lib.ListN.{length, take, drop, length-append, List·getD-append}
 use lib.Seq.{take-at, drop-at}
 use borrow.Author.Tests.{lt-ltb, le-ltb}
 use Rattle.lists.specs.Lists.{pick, at, tab}
 use Rattle.lists.proofs.TabLaws.{order, length-tab, tab-at, tab-same}
 use Rattle.lists.proofs.PutLaws.{skip}
+use Rattle.lists.proofs.Tests.{all, all-at}
 use Rattle.field.specs.Field.{plus}
-use Rattle.bits.specs.Fields.{_wide_, widths, fieldAt}
+use Rattle.bits.specs.Fields.{_wide_, bitOf, bitsOf, widths, number, packed, pack, fieldAt}
 use Rattle.bits.proofs.PackLaws.{pack-length}
 use Rattle.bits.proofs.AppendLaws.{field-front}
 use Rattle.mask.specs.Response.{responseLength, responseHead, responseBytes, dataIn, seedIn, sumIn, tagIn}
@@ -21,6 +22,14 @@ use Rattle.mask.specs.Response.{responseLength, responseHead, responseBy
 pub head-length : (node : ℕ) → length (responseHead node) ≡ 1
 unfolding widths
 head-length node = pack-length ((4 wide 2) ∷ (3 wide node) ∷ (1 wide 0) ∷ [])
+
+-- the first byte as a number
+heads : T (all 8 (λ node. eqb (at (responseHead node) 0) (32 + 2 * node)))
+unfolding pack packed bitsOf bitOf widths number tab all
+heads = tt
+
+pub head-is : (node : ℕ) → node < 8 → at (responseHead node) 0 ≡ 32 + 2 * node
+head-is node h = eqb→eq _ _ (all-at 8 _ heads node h)
 
 module _ (n node : ℕ) (block : ℕ → ℕ) (tag : ℕ) (hidden : ℕ → ℕ) (seed : List ℕ) (total : ℕ) (low : 3 ≤ n) (es : length seed ≡ 11) where
   abbrev r : List ℕ

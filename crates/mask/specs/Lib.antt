@@ -1,3 +1,4 @@
 pub mod Masks
 pub mod Response
 pub mod Operations
+pub mod Laws

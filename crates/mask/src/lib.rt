@@ -1,1 +1,97 @@
 // Masks (NC-Audit): F2, F3, auxiliary elements, mask and mask sum; the response that a mask hides a block in.
+mod response;
+mod rows;
+mod unmasking;
+
+ghost use mathlib.Core.Path.{_≡_};
+ghost use Prim.Native.Nat.{_-_, _≤_};
+ghost use lib.ListN.{length};
+ghost use Rattle.lists.specs.Lists.{anyBelow};
+ghost use Rattle.answer.specs.Refusals.{differs};
+ghost use Rattle.tag.specs.KeyVector.{keyVector};
+ghost use Rattle.mask.specs.Masks.{maskRow, auxiliary};
+ghost use Rattle.mask.specs.Operations.{setupAnswer, setupOut};
+ghost use Rattle.mask.specs.Laws.{MaskLaws};
+use answer::Outcome;
+use answer::Refusal;
+use keystream::Stream;
+pub use response::head_byte;
+pub use rows::add_mask;
+pub use rows::mask_sum;
+pub use unmasking::unmask;
+
+// Whether one of the first len key elements is not zero.
+fn any_element(key: &[u8], id: &[u8], len: usize) -> bool
+    requires { ⌜ (length (now key) ≡ 32) × (length (now id) ≡ 8) ⌝ }
+    ensures { λ r. ⌜ r ≡ anyBelow len (λ e. differs (keyVector (now (key .entry)) (now (id .entry)) e) 0) ⌝ }
+{
+    let mut s = Stream::new(tag::key_array(key), tag::id_nonce(1, 0, 0, 0, id));
+    for _ in 0..len {
+        let d = s.next();
+        if d.byte != 0 {
+            return true;
+        }
+        let t = d.stream;
+        s = t;
+    }
+    false
+}
+
+// The first refusal of Setup.
+fn setup_check(tag_key: &[u8], mask_key: &[u8], id: &[u8], n: usize, out: &[u8]) -> Outcome
+    ensures { λ r. ⌜ r ≡ setupAnswer (now («tag_key» .entry)) (now («mask_key» .entry)) (now (id .entry)) n (now (out .entry)) ⌝ }
+{
+    if answer::outside(3, 1024, n) {
+        return Outcome::Refused(Refusal::Size);
+    }
+    if (tag_key.len() != 32) | (mask_key.len() != 32) | (id.len() != 8) | (out.len() != n - 1) {
+        return Outcome::Refused(Refusal::Length);
+    }
+    if !any_element(tag_key, id, n - 2) {
+        return Outcome::Refused(Refusal::ZeroKeyVector);
+    }
+    Outcome::Done
+}
+
+// The auxiliary elements of two keys that were accepted.
+fn setup_into(tag_key: &[u8], mask_key: &[u8], id: &[u8], n: usize, out: &mut [u8])
+    requires { ⌜ (3 ≤ n) × (n ≤ 1024) × (length (now «tag_key») ≡ 32) × (length (now «mask_key») ≡ 32) × (length (now id) ≡ 8) × (length (now out) ≡ n - 1) ⌝ }
+    ensures { λ _. ⌜ now (out .exit) ≡ auxiliary n (keyVector (now («tag_key» .entry)) (now (id .entry))) (maskRow (now («mask_key» .entry)) (now (id .entry))) ⌝ }
+{
+    let pair = field::tables();
+    let powers = pair.powers;
+    let logs = pair.logs;
+    let mut vector = [0u8; 1024];
+    keystream::fill(
+        tag::key_array(tag_key),
+        tag::id_nonce(1, 0, 0, 0, id),
+        &mut vector,
+        16,
+    );
+    rows::auxiliary_into(
+        &powers,
+        &logs,
+        tag::key_array(mask_key),
+        id,
+        &vector,
+        n,
+        out,
+    );
+}
+
+// The n - 1 auxiliary elements, of the tag key and the mask key.
+pub fn setup(tag_key: &[u8], mask_key: &[u8], id: &[u8], n: usize, out: &mut [u8]) -> Outcome
+    ensures answer { λ r. ⌜ r ≡ setupAnswer (now («tag_key» .entry)) (now («mask_key» .entry)) (now (id .entry)) n (now (out .entry)) ⌝ }
+    ensures output { λ _. ⌜ now (out .exit) ≡ setupOut (now («tag_key» .entry)) (now («mask_key» .entry)) (now (id .entry)) n (now (out .entry)) ⌝ }
+{
+    let answer = setup_check(tag_key, mask_key, id, n, out);
+    if let Outcome::Done = answer {
+        setup_into(tag_key, mask_key, id, n, out);
+    }
+    answer
+}
+
+// Carries the laws of masks: without their proof the crate is not proved.
+pub fn mask_laws()
+    ensures { λ _. ⌜ MaskLaws ⌝ }
+{}

@@ -1,47 +1,107 @@
-// What the archive promises, as theorems: each is carried by an empty function, so that the crate is not proved without its proof.
-ghost use Rattle.span.specs.Demand3.{Demand3};
-ghost use Rattle.span.specs.Life.{Lived};
-ghost use Rattle.span.specs.Worked.{Worked};
-ghost use Rattle.span.specs.Tries.{Tries};
-ghost use Rattle.span.specs.Hollow.{Hollow};
-ghost use Rattle.span.specs.Companions.{Unmasking, ReadIsFixed, InventoryIsFixed};
+// The archive's operations for C and Rust: numbers and byte slices in, document 01's number out (include/span_archive.h).
+ghost use mathlib.Core.Path.{_≡_};
+ghost use Rattle.answer.specs.Numbers.{outcomeNumber};
+ghost use Rattle.answer.specs.Refusals.{afterwards};
+ghost use Rattle.field.specs.Field.{times};
+ghost use Rattle.field.specs.Inverse.{inverted, invertedOutcome, invertedValue};
+ghost use Rattle.keystream.specs.Block.{blockAnswer, blockOut};
+ghost use Rattle.tag.specs.KeyVector.{vectorAnswer, vectorOut};
+ghost use Rattle.mask.specs.Operations.{setupAnswer, setupOut, unmaskAnswer, unmaskOut};
+ghost use Rattle.audit.specs.Challenge.{challengeFor, challengeAnswer, challengeOut};
+ghost use Rattle.audit.specs.Verdict.{judgementNumber, verdictOf};
+use field::Inverted;
 
-// Demand 3: a single claim about every list of Encode, Lose and Repair calls.
-pub fn demand3()
-    ensures { λ _. ⌜ Demand3 ⌝ }
-{}
+#[no_mangle]
+pub extern "C" fn span_multiply(a: u8, b: u8) -> u8
+    ensures { λ r. ⌜ r ≡ times a b ⌝ }
+{
+    field::multiply(a, b)
+}
 
-// Unmasking gives the block that was masked, for every archive.
-pub fn unmasking()
-    ensures { λ _. ⌜ Unmasking ⌝ }
-{}
+#[no_mangle]
+pub extern "C" fn span_inverse(a: u8, out: &mut u8) -> u8
+    ensures number { λ r. ⌜ r ≡ outcomeNumber (invertedOutcome (inverted a)) ⌝ }
+    ensures output { λ _. ⌜ now (out .exit) ≡ afterwards (invertedOutcome (inverted a)) (now (out .entry)) (invertedValue (inverted a)) ⌝ }
+{
+    let i = field::inverse(a);
+    let number = answer::number(field::outcome(i));
+    if let Inverted::Element(b) = i {
+        *out = b;
+        return number;
+    }
+    number
+}
 
-// Read's file is fixed for every archive, damaged ones too.
-pub fn read_is_fixed()
-    ensures { λ _. ⌜ ReadIsFixed ⌝ }
-{}
+#[no_mangle]
+pub extern "C" fn span_block(key: &[u8], counter: u32, nonce: &[u8], out: &mut [u8]) -> u8
+    ensures number { λ r. ⌜ r ≡ outcomeNumber (blockAnswer (now (key .entry)) (now (nonce .entry)) (now (out .entry))) ⌝ }
+    ensures output { λ _. ⌜ now (out .exit) ≡ blockOut (now (key .entry)) counter (now (nonce .entry)) (now (out .entry)) ⌝ }
+{
+    answer::number(keystream::block(key, counter, nonce, out))
+}
 
-// Inventory's number is fixed, and its list up to the order.
-pub fn inventory_is_fixed()
-    ensures { λ _. ⌜ InventoryIsFixed ⌝ }
-{}
+#[no_mangle]
+pub extern "C" fn span_vector(key: &[u8], id: &[u8], n: usize, m: usize, out: &mut [u8]) -> u8
+    ensures number { λ r. ⌜ r ≡ outcomeNumber (vectorAnswer (now (key .entry)) (now (id .entry)) n m (now (out .entry))) ⌝ }
+    ensures output { λ _. ⌜ now (out .exit) ≡ vectorOut (now (key .entry)) (now (id .entry)) n m (now (out .entry)) ⌝ }
+{
+    answer::number(tag::vector(key, id, n, m, out))
+}
 
-// The premises of demand 3 can be met: a concrete life, its bytes computed.
-pub fn premises_can_be_met()
-    ensures { λ _. ⌜ Lived ⌝ }
-{}
+#[no_mangle]
+pub extern "C" fn span_setup(
+    tag_key: &[u8],
+    mask_key: &[u8],
+    id: &[u8],
+    n: usize,
+    auxiliary: &mut [u8],
+) -> u8
+    ensures number { λ r. ⌜ r ≡ outcomeNumber (setupAnswer (now («tag_key» .entry)) (now («mask_key» .entry)) (now (id .entry)) n (now (auxiliary .entry))) ⌝ }
+    ensures output { λ _. ⌜ now (auxiliary .exit) ≡ setupOut (now («tag_key» .entry)) (now («mask_key» .entry)) (now (id .entry)) n (now (auxiliary .entry)) ⌝ }
+{
+    answer::number(mask::setup(tag_key, mask_key, id, n, auxiliary))
+}
 
-// The starred worked values of document 01, as one table.
-pub fn worked_values()
-    ensures { λ _. ⌜ Worked ⌝ }
-{}
+#[no_mangle]
+pub extern "C" fn span_unmask(
+    n: usize,
+    id: &[u8],
+    mask_key: &[u8],
+    response: &[u8],
+    out: &mut [u8],
+) -> u8
+    ensures number { λ r. ⌜ r ≡ outcomeNumber (unmaskAnswer n (now (id .entry)) (now («mask_key» .entry)) (now (response .entry)) (now (out .entry))) ⌝ }
+    ensures output { λ _. ⌜ now (out .exit) ≡ unmaskOut n (now (id .entry)) (now («mask_key» .entry)) (now (response .entry)) (now (out .entry)) ⌝ }
+{
+    answer::number(mask::unmask(n, id, mask_key, response, out))
+}
 
-// What a reader would try on the definitions first.
-pub fn first_tries()
-    ensures { λ _. ⌜ Tries ⌝ }
-{}
+#[no_mangle]
+pub extern "C" fn span_challenge(
+    node: usize,
+    places: &[u8],
+    coefficients: &[u8],
+    message: &mut [u8],
+) -> u8
+    ensures number { λ r. ⌜ r ≡ outcomeNumber (challengeAnswer (challengeFor node (now (places .entry)) (now (coefficients .entry))) (now (message .entry))) ⌝ }
+    ensures output { λ _. ⌜ now (message .exit) ≡ challengeOut (challengeFor node (now (places .entry)) (now (coefficients .entry))) (now (message .entry)) ⌝ }
+{
+    answer::number(audit::challenge(node, places, coefficients, message))
+}
 
-// For each mistake and hollow program that document 01 lists, the fact that rules it out.
-pub fn no_hollow_program()
-    ensures { λ _. ⌜ Hollow ⌝ }
-{}
+#[no_mangle]
+pub extern "C" fn span_verdict(
+    key: &[u8],
+    id: &[u8],
+    n: usize,
+    m: usize,
+    places: usize,
+    nodes: usize,
+    rows: &[u8],
+    message: &[u8],
+    response: &[u8],
+) -> u8
+    ensures { λ r. ⌜ r ≡ judgementNumber (verdictOf (now (key .entry)) (now (id .entry)) (record { n = n; m = m; places = places; nodes = nodes }) (now (rows .entry)) (now (message .entry)) (now (response .entry))) ⌝ }
+{
+    audit::number(audit::verdict(key, id, n, m, places, nodes, rows, message, response))
+}

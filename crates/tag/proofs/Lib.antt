@@ -1,3 +1,5 @@
 pub mod VectorLaws
 pub mod StreamLaws
 pub mod VectorOpLaws
+pub mod AddedLaws
+pub mod SizeLaws

@@ -1,17 +1,17 @@
 -- The steps of a loop that draws one byte a turn, and the key vector as the bytes of F1's stream. Assumes nothing.
-use Prim.Native.Nat.{ℕ, _+_, _-_, _<_}
-use mathlib.Core.Path.{_≡_, refl, sym, ap, _∙_}
+use Prim.Native.Nat.{ℕ, zero, suc, _+_, _-_}
+use mathlib.Core.Path.{_≡_, refl, ap, _∙_}
 use mathlib.Core.List.{List, _∷_}
+use native.Mathlib.Nat.{add-zero, add-suc}
 use native.Mathlib.Numerals.{add-one}
 use native.Mathlib.Omega.{arith}
-use Rattle.lists.specs.Lists.{at, tab}
-use Rattle.lists.proofs.TabLaws.{is-tab, tab-same}
+use Rattle.lists.specs.Lists.{tab}
+use Rattle.lists.proofs.TabLaws.{tab-same}
 use Rattle.keystream.specs.declared.stream.Stream.{Stream}
 use Rattle.keystream.specs.declared.stream.Drawn.{Drawn}
-use Rattle.keystream.specs.Draws.{byteAt, fresh, drawn, after}
-use Rattle.keystream.proofs.DrawLaws.{draws-in-order}
+use Rattle.keystream.specs.Draws.{fresh, drawn, after}
+use Rattle.keystream.proofs.DrawLaws.{draws-in-order, draw-at}
 use Rattle.tag.specs.KeyVector.{F1, keyVector}
-use lib.ListN.{length}
 
 pub after-none : (s : Stream) → s ≡ after 0 s
 unfolding after
@@ -22,9 +22,11 @@ pub after-more : (i : ℕ) (s : Stream) {t : Stream} {d : Drawn} → t ≡ after
 unfolding after
 after-more i s p q = (ap (λ (x : Drawn). x .byte) (q ∙ ap drawn p), rw add-one (ap (λ (x : Drawn). x .stream) (q ∙ ap drawn p)))
 
--- a list is made of its elements
-pub elements : (n : ℕ) (s : List ℕ) → length s ≡ n → tab n (at s) ≡ s
-elements n s e = sym (is-tab n (at s) s e (λ i h. refl))
+-- a draws, and then b more
+pub after-add : (a b : ℕ) (s : Stream) → after (a + b) s ≡ after b (after a s)
+unfolding after
+after-add a zero s = rw add-zero
+after-add a (suc b) s = rw add-suc (ap (λ (t : Stream). drawn t .stream) (after-add a b s))
 
 -- the bytes drawn from F1's stream are the key vector
 pub vector-drawn : (n : ℕ) (key id : List ℕ) → tab n (λ i. drawn (after i (fresh key (1 ∷ 0 ∷ 0 ∷ 0 ∷ id))) .byte) ≡ tab n (keyVector key id)
@@ -33,3 +35,12 @@ vector-drawn n key id =
     tab-same n _ _ (λ i h.
     let q : i + 1 - 1 ≡ i = omega arith in
     draws-in-order key (1 ∷ 0 ∷ 0 ∷ 0 ∷ id) i ∙ rw q refl)
+
+-- what `next` ensures of F1's stream after i draws
+pub key-drawn : (key id : List ℕ) (i : ℕ) {s : Stream} {d : Drawn} → s ≡ after i (fresh key (1 ∷ 0 ∷ 0 ∷ 0 ∷ id)) → d ≡ drawn s
+    → (d .byte ≡ keyVector key id i) × (d .stream ≡ after (i + 1) (fresh key (1 ∷ 0 ∷ 0 ∷ 0 ∷ id)))
+unfolding keyVector F1
+key-drawn key id i e h =
+    let q : i + 1 - 1 ≡ i = omega arith in
+    let w = draw-at key (1 ∷ 0 ∷ 0 ∷ 0 ∷ id) i e h in
+    (w .0 ∙ rw q refl, w .1)

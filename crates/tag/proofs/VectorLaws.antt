@@ -54,6 +54,10 @@ pub product-same : (len : ℕ) (u u′ k : ℕ → ℕ) → ((i : ℕ) → i < l
 unfolding product
 product-same len u u′ k h = sum-same len _ _ (λ i l. ap (λ (x : ℕ). times x (k i)) (h i l))
 
+pub product-keys : (len : ℕ) (u k k′ : ℕ → ℕ) → ((i : ℕ) → i < len → k i ≡ k′ i) → product len u k ≡ product len u k′
+unfolding product
+product-keys len u k k′ h = sum-same len _ _ (λ i l. ap (times (u i)) (h i l))
+
 pub product-left : (len : ℕ) (u u′ k : ℕ → ℕ) → product len (λ i. plus (u i) (u′ i)) k ≡ plus (product len u k) (product len u′ k)
 unfolding product
 product-left len u u′ k = sum-same len _ _ (λ i h. times-xor-left (u i) (u′ i) (k i)) ∙ sum-plus len _ _
@@ -65,6 +69,11 @@ product-right len u k k′ = sum-same len _ _ (λ i h. times-xor-right (u i) (k 
 pub product-zero : (len : ℕ) (k : ℕ → ℕ) → product len (λ i. 0) k ≡ 0
 unfolding product
 product-zero len k = sum-zero len _ (λ i h. zero-times (k i))
+
+-- a product split at an index
+pub product-split : (a b : ℕ) (u k : ℕ → ℕ) → product (a + b) u k ≡ plus (product a u k) (product b (λ i. u (a + i)) (λ i. k (a + i)))
+unfolding product
+product-split a b u k = sum-split a b (λ e. times (u e) (k e))
 
 -- the product of a combination is the combination of the products
 pub product-mixed : (len count : ℕ) (r : ℕ → ℕ) (v : ℕ → ℕ → ℕ) (k : ℕ → ℕ) → product len (mixed count r v) k ≡ sum count (λ i. times (r i) (product len (v i) k))

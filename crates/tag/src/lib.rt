@@ -1,9 +1,17 @@
 // Key vectors and tags (NC-Audit): the sizes of an archive, F1, and the tag of a block.
+mod products;
+
+pub use products::Summed;
+pub use products::add_multiple;
+pub use products::combine;
+pub use products::product_drawn;
+pub use products::product_of;
 ghost use mathlib.Core.Path.{_≡_};
 ghost use mathlib.Core.List.{_∷_};
 ghost use lib.ListN.{length};
 ghost use Rattle.lists.specs.Lists.{tab};
 ghost use Rattle.keystream.specs.Draws.{fresh, drawn, after};
+ghost use Rattle.tag.specs.Sizes.{sizesOutside};
 ghost use Rattle.tag.specs.KeyVector.{TagsCombine, vectorAnswer, vectorOut};
 use answer::Outcome;
 use answer::Refusal;
@@ -15,6 +23,16 @@ pub struct Sizes {
     pub m: usize,
     pub places: usize,
     pub nodes: usize,
+}
+
+// Whether a size is outside its range.
+pub fn sizes_outside(z: Sizes) -> bool
+    ensures { λ r. ⌜ r ≡ sizesOutside z ⌝ }
+{
+    answer::outside(3, 1024, z.n)
+        | answer::outside(1, 16, z.m)
+        | answer::outside(1, 8, z.places)
+        | answer::outside(1, 6, z.nodes)
 }
 
 // A key by value.
@@ -67,25 +85,10 @@ pub fn draw_into(s: Stream, out: &mut [u8])
 fn vector_check(key: &[u8], id: &[u8], n: usize, m: usize, out: &[u8]) -> Outcome
     ensures { λ r. ⌜ r ≡ vectorAnswer (now (key .entry)) (now (id .entry)) n m (now (out .entry)) ⌝ }
 {
-    if n < 3 {
+    if answer::outside(3, 1024, n) | answer::outside(1, 16, m) {
         return Outcome::Refused(Refusal::Size);
     }
-    if 1024 < n {
-        return Outcome::Refused(Refusal::Size);
-    }
-    if m < 1 {
-        return Outcome::Refused(Refusal::Size);
-    }
-    if 16 < m {
-        return Outcome::Refused(Refusal::Size);
-    }
-    if key.len() != 32 {
-        return Outcome::Refused(Refusal::Length);
-    }
-    if id.len() != 8 {
-        return Outcome::Refused(Refusal::Length);
-    }
-    if out.len() != n + m {
+    if (key.len() != 32) | (id.len() != 8) | (out.len() != n + m) {
         return Outcome::Refused(Refusal::Length);
     }
     Outcome::Done

@@ -1,6 +1,9 @@
-// Runs the vectors of RFC 8439 and FIPS 197, and document 01's worked header and challenge, through the public functions.
+// Runs the vectors of RFC 8439 and FIPS 197, document 01's worked values and hostile calls through the public functions.
+mod audits;
+mod elimination;
 mod fips197;
 mod key_vector;
+mod masks;
 mod packing;
 mod report;
 mod rfc8439;
@@ -10,4 +13,7 @@ fn main() {
     fips197::run();
     packing::run();
     key_vector::run();
+    masks::run();
+    audits::run();
+    elimination::run();
 }

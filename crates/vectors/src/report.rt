@@ -36,3 +36,12 @@ pub fn number(label: &[u8], expected: u64, got: u64) {
     io::print_hex(OUT, got, 2);
     verdict(expected == got);
 }
+
+// What a refused call left of the 64 bytes lent to it: each was a5.
+pub fn kept(lent: [u8; 64]) {
+    if check::same(&lent, &[0xa5u8; 64]) {
+        io::write_all(OUT, b"  nothing written\n");
+    } else {
+        io::write_all(OUT, b"  WRITTEN\n");
+    }
+}

@@ -101,11 +101,11 @@ fn block_case(label: &[u8], key: [u8; 32], counter: u32, nonce: [u8; 12], expect
     report::bytes(label, expected, &out);
 }
 
-// The bytes 0, 1, 2, ..
-pub fn counting_key() -> [u8; 32] {
+// 32 bytes, each one more than the one before; the first is below 128.
+pub fn counting_key(first: u8) -> [u8; 32] {
     let mut key = [0u8; 32];
     for i in 0u8..32 {
-        key[i as usize] = i;
+        key[i as usize] = first % 128 + i;
     }
     key
 }
@@ -122,7 +122,7 @@ fn blocks() {
     let mut nonce = none;
     nonce[3] = 9;
     nonce[7] = 0x4a;
-    block_case(b"RFC 8439 2.3.2", counting_key(), 1, nonce, &SECTION_2_3_2);
+    block_case(b"RFC 8439 2.3.2", counting_key(0), 1, nonce, &SECTION_2_3_2);
     block_case(b"RFC 8439 A.1 #1", zero, 0, none, &BLOCK_1);
     block_case(b"RFC 8439 A.1 #2", zero, 1, none, &BLOCK_2);
     block_case(b"RFC 8439 A.1 #3", one, 1, none, &BLOCK_3);

@@ -1,29 +1,24 @@
 use borrow.Author.Needs.{needs}
+use Prim.Native.Nat.{ℕ, _<_}
+use mathlib.Core.Path.{_≡_, ap, _∙_}
+use lib.Bits.{xor-zero-l}
+use lib.ListN.{replicate, getD-replicate}
+use Rattle.lists.specs.Lists.{at}
+use Rattle.field.specs.Field.{plus}
 use Rattle.linear.proofs.RowLaws.{scales}
 use Rattle.linear.proofs.scaled.Statement.{statement}
 use Rattle.linear.proofs.scaled.Tie as tie
 
-mul-v : tie.Need-mul-v
-mul-v c = search needs
-
-array-copy-out-v : tie.Need-array-copy-out-v
-array-copy-out-v c = search needs
-
-scaled-row-requires : tie.Need-scaled-row-requires
-scaled-row-requires c κs = search needs
-
-mul-out : tie.Need-mul-out
-mul-out c = search needs
-
-array-set-from-out : tie.Need-array-set-from-out
-array-set-from-out c = search needs
+-- the row of zeros adds nothing
+to-zero : (x j : ℕ) → j < 16 → plus (at (replicate 16 0) j) x ≡ x
+to-zero x j l = ap (λ (z : ℕ). plus z x) (getD-replicate 16 j 0 0 l) ∙ xor-zero-l x
 
 returns : tie.Need-returns
 returns c =
     let s = c .before .before .args in
-    scales (s .t3) (s .r) (s .c) (c .scaled-row .result) (search needs) (search needs) (c .scaled-row .ensures)
+    scales (s .t3) (s .r) (s .c) (c .added-row .result) (search needs) (search needs) (λ j l. c .added-row .ensures j l ∙ to-zero _ j l)
 
 pub scaled-spec : {M : Type 1} → statement M
 scaled-spec =
     tie.close
-    (tie.spec mul-v array-copy-out-v scaled-row-requires mul-out array-set-from-out returns)
+    (tie.spec (λ c. search needs) (λ c. search needs) (λ c κs. search needs) (λ c. search needs) (λ c. search needs) returns)

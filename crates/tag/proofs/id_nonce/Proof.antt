@@ -1,9 +1,9 @@
 use borrow.Author.Needs.{needs}
-use mathlib.Core.Path.{sym, ap}
+use mathlib.Core.Path.{ap}
 use mathlib.Core.List.{List, _∷_}
 use Prim.Native.Nat.{ℕ}
 use Rattle.lists.specs.Lists.{tab}
-use Rattle.tag.proofs.StreamLaws.{elements}
+use Rattle.lists.proofs.TabLaws.{elements}
 use Rattle.tag.proofs.id_nonce.Statement.{statement}
 use Rattle.tag.proofs.id_nonce.Tie as tie
 

@@ -5,8 +5,7 @@ use mathlib.Core.List.{[]}
 use native.Mathlib.Omega.{arith}
 use lib.ListN.{length, take, length-set}
 use Rattle.lists.specs.Lists.{at, tab}
-use Rattle.lists.proofs.TabLaws.{tab-none, tab-more, tab-all}
-use Rattle.tag.proofs.StreamLaws.{elements}
+use Rattle.lists.proofs.TabLaws.{tab-none, tab-more, tab-all, elements}
 use Rattle.tag.proofs.key_array.Statement.{statement}
 use Rattle.tag.proofs.key_array.Tie as tie
 

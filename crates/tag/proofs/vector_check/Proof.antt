@@ -1,56 +1,41 @@
 use borrow.Author.Needs.{needs}
-use borrow.Author.Tests.{lt-ltb, le-ltb, eq-eqb, ne-eqb}
-use Rattle.lists.specs.Lists.{anyOf}
-use Rattle.answer.specs.Refusals.{refuse, outside}
+use mathlib.Core.Path.{sym, ap₂, _∙_}
+use mathlib.Core.Bool.{_||_}
+use native.Mathlib.Omega.{arith}
+use Rattle.lists.proofs.AnyLaws.{or-false, any-two, any-three}
+use Rattle.answer.proofs.RefusalLaws.{refused, passed, inside}
 use Rattle.tag.specs.KeyVector.{vectorAnswer}
 use Rattle.tag.proofs.vector_check.Statement.{statement}
 use Rattle.tag.proofs.vector_check.Tie as tie
 
 returns : tie.Need-returns
-unfolding vectorAnswer refuse anyOf outside
-returns c = simp (lt-ltb _ _ (c .if1 .taken))
+unfolding vectorAnswer
+returns c =
+    sym (refused _ _ (sym (any-two _ _) ∙ ap₂ _||_ (sym (c .before .before .outside .ensures)) (sym (c .before .outside2 .ensures)) ∙ c .if1 .taken))
+
+add-if2 : tie.Need-add-if2
+add-if2 c =
+    let w = or-false _ _ (c .if1 .left) in
+    let n = inside 3 1024 _ (sym (c .before .before .outside .ensures) ∙ w .0) in
+    let m = inside 1 16 _ (sym (c .before .outside2 .ensures) ∙ w .1) in
+    omega (arith, n .1, m .1)
 
 returns-2 : tie.Need-returns-2
-unfolding vectorAnswer refuse anyOf outside
-returns-2 c = simp (le-ltb _ _ (c .before .if1 .left), lt-ltb _ _ (c .if2 .taken))
+unfolding vectorAnswer
+returns-2 c =
+    let b = c .before in
+    sym (
+    passed _ _ (sym (any-two _ _) ∙ ap₂ _||_ (sym (b .before .before .outside .ensures)) (sym (b .before .outside2 .ensures)) ∙ b .if1 .left)
+    ∙ refused _ _ (sym (any-three _ _ _) ∙ c .if2 .taken))
 
 returns-3 : tie.Need-returns-3
-unfolding vectorAnswer refuse anyOf outside
-returns-3 c = simp (le-ltb _ _ (c .before .before .if1 .left), le-ltb _ _ (c .before .if2 .left), lt-ltb _ _ (c .if3 .taken))
-
-returns-4 : tie.Need-returns-4
-unfolding vectorAnswer refuse anyOf outside
-returns-4 c = simp (le-ltb _ _ (c .before .before .before .if1 .left), le-ltb _ _ (c .before .before .if2 .left), le-ltb _ _ (c .before .if3 .left), lt-ltb _ _ (c .if4 .taken))
-
-returns-5 : tie.Need-returns-5
-unfolding vectorAnswer refuse anyOf outside
-returns-5 c = simp (le-ltb _ _ (c .before .before .before .before .if1 .left), le-ltb _ _ (c .before .before .before .if2 .left), le-ltb _ _ (c .before .before .if3 .left), le-ltb _ _ (c .before .if4 .left), ne-eqb _ _ (c .if5 .taken))
-
-returns-6 : tie.Need-returns-6
-unfolding vectorAnswer refuse anyOf outside
-returns-6 c = simp (le-ltb _ _ (c .before .before .before .before .before .if1 .left), le-ltb _ _ (c .before .before .before .before .if2 .left), le-ltb _ _ (c .before .before .before .if3 .left), le-ltb _ _ (c .before .before .if4 .left), eq-eqb _ _ (c .before .if5 .left), ne-eqb _ _ (c .if6 .taken))
-
-add-if7 : tie.Need-add-if7
-add-if7 c = search needs
-
-returns-7 : tie.Need-returns-7
-unfolding vectorAnswer refuse anyOf outside
-returns-7 c = simp (le-ltb _ _ (c .before .before .before .before .before .before .if1 .left), le-ltb _ _ (c .before .before .before .before .before .if2 .left), le-ltb _ _ (c .before .before .before .before .if3 .left), le-ltb _ _ (c .before .before .before .if4 .left), eq-eqb _ _ (c .before .before .if5 .left), eq-eqb _ _ (c .before .if6 .left), ne-eqb _ _ (c .if7 .taken))
-
-returns-8 : tie.Need-returns-8
-unfolding vectorAnswer refuse anyOf outside
-returns-8 c = simp (le-ltb _ _ (c .before .before .before .before .before .before .if1 .left), le-ltb _ _ (c .before .before .before .before .before .if2 .left), le-ltb _ _ (c .before .before .before .before .if3 .left), le-ltb _ _ (c .before .before .before .if4 .left), eq-eqb _ _ (c .before .before .if5 .left), eq-eqb _ _ (c .before .if6 .left), eq-eqb _ _ (c .if7 .left))
+unfolding vectorAnswer
+returns-3 c =
+    let b = c .before in
+    sym (
+    passed _ _ (sym (any-two _ _) ∙ ap₂ _||_ (sym (b .before .before .outside .ensures)) (sym (b .before .outside2 .ensures)) ∙ b .if1 .left)
+    ∙ passed _ _ (sym (any-three _ _ _) ∙ c .if2 .left))
 
 pub vector-check-spec : {M : Type 1} → statement M
 vector-check-spec =
-    tie.close
-    (tie.spec
-    returns
-    returns-2
-    returns-3
-    returns-4
-    returns-5
-    returns-6
-    add-if7
-    returns-7
-    returns-8)
+    tie.close (tie.spec (λ c κs. search needs) (λ c κs. search needs) returns add-if2 returns-2 returns-3)

@@ -1,6 +1,6 @@
 use mathlib.Core.Path.{sym, _∙_}
 use Rattle.answer.proofs.RefusalLaws.{refused, passed, differs-same, differs-other, after-done, after-refused}
-use Rattle.keystream.specs.ChaCha.{blockOf}
+use Rattle.keystream.proofs.ChaChaLaws.{block-stored}
 use Rattle.keystream.specs.Block.{blockAnswer, blockOut}
 use borrow.Author.Needs.{needs}
 use Rattle.keystream.proofs.chacha.block.Statement.{statement}
@@ -22,11 +22,11 @@ returns-3 c =
     (sym e, sym (after-refused _ _ e))
 
 returns-4 : tie.Need-returns-4
-unfolding blockAnswer blockOut blockOf
+unfolding blockAnswer blockOut
 returns-4 c =
     let b = c .before .before .before .before .before .before in
     let e = passed _ _ (differs-same (b .before .before .if1 .left)) ∙ passed _ _ (differs-same (b .before .if2 .left)) ∙ passed _ _ (differs-same (b .if3 .left)) in
-    (sym e, (cc) ∙ sym (after-done _ _ e))
+    (sym e, block-stored _ _ _ _ (b .if3 .left) (c .before .before .before .before .before .start-state .ensures) (c .before .before .before .before .block-words .ensures) (c .before .before .spread .ensures) ∙ sym (after-done _ _ e))
 
 pub block-spec : {M : Type 1} → statement M
 block-spec =

@@ -1,0 +1,112 @@
+// Mask rows: what is made of all of them, one pass over each.
+ghost use mathlib.Core.Path.{_≡_};
+ghost use Prim.Native.Nat.{ℕ, _+_, _-_, _<_, _≤_};
+ghost use mathlib.Core.List.{_∷_};
+ghost use lib.ListN.{length};
+ghost use Rattle.lists.specs.Lists.{at};
+ghost use Rattle.field.specs.Tables.{PowerTable, LogTable};
+ghost use Rattle.keystream.specs.Draws.{drawn, after};
+ghost use Rattle.tag.specs.Vectors.{added};
+ghost use Rattle.mask.specs.Masks.{maskRow, maskCoefficient, auxiliary, mask, maskSum};
+use keystream::Stream;
+
+// Mask row i, counted from 0: its n - 2 elements, and what follows them in their last block.
+fn mask_row(key: [u8; 32], id: &[u8], i: usize, n: usize) -> [u8; 1024]
+    requires { ⌜ (3 ≤ n) × (n ≤ 1024) × (length (now id) ≡ 8) × (i < 1024) ⌝ }
+    ensures { λ r. ⌜ ((e : ℕ) → e < n - 2 → at r e ≡ maskRow key (now (id .entry)) i e) ⌝ }
+{
+    let r = i + 1;
+    let nonce = tag::id_nonce(2, 0, (r / 256 % 256) as u8, (r % 256) as u8, id);
+    let mut row = [0u8; 1024];
+    keystream::fill(key, nonce, &mut row, (n + 61) / 64);
+    row
+}
+
+// The auxiliary elements over a key vector, one for each mask row.
+pub fn auxiliary_into(
+    powers: &[u8; 510],
+    logs: &[u8; 256],
+    key: [u8; 32],
+    id: &[u8],
+    vector: &[u8],
+    n: usize,
+    out: &mut [u8],
+)
+    requires { ⌜ PowerTable (now powers) × LogTable (now logs) × (3 ≤ n) × (n ≤ 1024) × (length (now id) ≡ 8) × (n - 2 ≤ length (now vector)) × (length (now out) ≡ n - 1) ⌝ }
+    ensures { λ _. ⌜ now (out .exit) ≡ auxiliary n (at (now (vector .entry))) (maskRow key (now (id .entry))) ⌝ }
+{
+    for i in 0..n - 1 {
+        let row = mask_row(key, id, i, n);
+        out[i] = tag::product_of(powers, logs, &row, vector, n - 2);
+    }
+}
+
+// Each mask row times the next byte of a stream, added to the n - 2 bytes of out from `from` on.
+fn add_rows(
+    powers: &[u8; 510],
+    logs: &[u8; 256],
+    key: [u8; 32],
+    id: &[u8],
+    coefficients: Stream,
+    n: usize,
+    out: &mut [u8],
+    from: usize,
+)
+    requires { ⌜ PowerTable (now powers) × LogTable (now logs) × (3 ≤ n) × (n ≤ 1024) × (length (now id) ≡ 8) × (from + (n - 2) ≤ length (now out)) ⌝ }
+    ensures { λ _. ⌜ now (out .exit) ≡ added (n - 2) from (mask n (λ i. drawn (after i coefficients) .byte) (maskRow key (now (id .entry)))) (now (out .entry)) ⌝ }
+{
+    let mut s = coefficients;
+    for i in 0..n - 1 {
+        let d = s.next();
+        let row = mask_row(key, id, i, n);
+        tag::add_multiple(powers, logs, d.byte, &row, 0, out, from, n - 2);
+        let t = d.stream;
+        s = t;
+    }
+}
+
+// The nonce of a seed.
+fn seed_nonce(seed: &[u8]) -> [u8; 12]
+    requires { ⌜ length (now seed) ≡ 11 ⌝ }
+    ensures { λ r. ⌜ r ≡ 3 ∷ now (seed .entry) ⌝ }
+{
+    [
+        3,
+        seed[0],
+        seed[1],
+        seed[2],
+        seed[3],
+        seed[4],
+        seed[5],
+        seed[6],
+        seed[7],
+        seed[8],
+        seed[9],
+        seed[10],
+    ]
+}
+
+// Adds the mask of a seed to the n - 2 bytes of out from `from` on; a second time takes it off again.
+pub fn add_mask(key: [u8; 32], id: &[u8], seed: &[u8], n: usize, out: &mut [u8], from: usize)
+    requires { ⌜ (3 ≤ n) × (n ≤ 1024) × (length (now id) ≡ 8) × (length (now seed) ≡ 11) × (from + (n - 2) ≤ length (now out)) ⌝ }
+    ensures { λ _. ⌜ now (out .exit) ≡ added (n - 2) from (mask n (maskCoefficient key (now (seed .entry))) (maskRow key (now (id .entry)))) (now (out .entry)) ⌝ }
+{
+    let pair = field::tables();
+    let powers = pair.powers;
+    let logs = pair.logs;
+    let coefficients = Stream::new(key, seed_nonce(seed));
+    add_rows(&powers, &logs, key, id, coefficients, n, out, from);
+}
+
+// The mask sum of a seed, made from auxiliary elements.
+pub fn mask_sum(key: [u8; 32], seed: &[u8], n: usize, elements: &[u8]) -> u8
+    requires { ⌜ (1 ≤ n) × (length (now seed) ≡ 11) × (n - 1 ≤ length (now elements)) ⌝ }
+    ensures { λ r. ⌜ r ≡ maskSum n (maskCoefficient key (now (seed .entry))) (now (elements .entry)) ⌝ }
+{
+    let pair = field::tables();
+    let powers = pair.powers;
+    let logs = pair.logs;
+    let coefficients = Stream::new(key, seed_nonce(seed));
+    let sum = tag::product_drawn(&powers, &logs, elements, 0, n - 1, coefficients);
+    sum.total
+}

@@ -1,0 +1,229 @@
+-- Honest audits on the image of a table, and responses that differ from Prove's. Assumes nothing.
+use Prim.Native.Nat.{ℕ, _+_, _-_, _*_, _<_, _≤_}
+use mathlib.Core.Path.{_≡_, refl, sym, ap, ap₂, _∙_}
+use mathlib.Core.Bool.{Bool, true, false, not}
+use mathlib.Core.List.{List}
+use mathlib.Core.Logic.{⊎-elim, _↔_}
+use native.Mathlib.Omega.{arith}
+use lib.Bits.{xor-zero-r}
+use lib.Dec.{ltb, leb}
+use lib.ListN.{length}
+use borrow.Author.Tests.{lt-ltb, le-ltb, lt-leb, eq-eqb}
+use Rattle.lists.specs.Lists.{pick, at, anyOf}
+use Rattle.lists.proofs.TabLaws.{order}
+use Rattle.lists.proofs.PutLaws.{length-flat, flat-at}
+use Rattle.lists.proofs.AnyLaws.{any-none}
+use Rattle.answer.specs.declared.Outcome.the-variants.{Done}
+use Rattle.answer.specs.Refusals.{refuse, afterwards}
+use Rattle.field.specs.Field.{plus}
+use Rattle.tag.specs.Vectors.{product}
+use Rattle.tag.specs.KeyVector.{withTag, keyVector}
+use Rattle.tag.proofs.VectorLaws.{mixed-mixed, mixed-vectors, mixed-lt, product-same, product-left, product-cut, tags-combine}
+use Rattle.mask.specs.Masks.{maskRow, maskCoefficient, auxiliary, mask, maskSum}
+use Rattle.mask.specs.Response.{responseLength, responseHead, sumIn, tagIn}
+use Rattle.mask.proofs.MaskLaws.{length-auxiliary, mask-sum}
+use Rattle.mask.proofs.ResponseLaws.{response-length, response-first, response-sum, response-tag, response-data, response-same}
+use Rattle.audit.specs.Challenge.{Challenge, challengeOf, malformedChallenge}
+use Rattle.audit.specs.Verdict.{verdictFor, appended, accepts, judgement, verdictOf}
+use Rattle.audit.specs.Verdict.{namedRow as givenRow}
+use Rattle.audit.specs.declared.Judgement.the-variants.{Accepted, Rejected}
+use Rattle.audit.proofs.ChallengeLaws.{in-rule, challenge-back, well-formed, asked-even, asked-rule, asked-bytes}
+use Rattle.audit.proofs.VerdictLaws.{altered}
+use Rattle.archive.specs.Layout.{blockLength, recordLength, filledIn}
+use Rattle.archive.specs.Blocks.{source, coded}
+use Rattle.archive.specs.Prove.{proveFor, proveAnswer, responseFor, namedByte, provedFor, proveOut}
+use Rattle.tag.proofs.SizeLaws.{not-sizes-outside}
+use Rattle.archive.proofs.BlockLaws.{coded-row}
+use Rattle.promise.specs.Table.{Table, element}
+use Rattle.promise.specs.Image.{vector, image}
+use Rattle.promise.specs.Demand3.{Given, setting, elements, Honest, message, sent, nodeRows, says, namedRow, namedBlock, expected, AuditHolds, ChangesAddUp}
+use Rattle.promise.proofs.ImageLaws.{Fit, image-sizes, image-id, image-good, image-filled, image-byte, record-mixed}
+
+-- lengths that Setup tested
+pub record Keys (g : Given) : Type 0 where
+  pub tag-size : length (g .tagKey) ≡ 32
+  pub mask-size : length (g .maskKey) ≡ 32
+  pub elements-are : elements g ≡ auxiliary (g .z .n) (vector (setting g)) (maskRow (g .maskKey) (g .id))
+
+module _ (g : Given) (F : Fit (setting g)) (K : Keys g) (t : Table) (h : Honest g t) where
+  abbrev A : List ℕ
+  A = image (setting g) t
+
+  abbrev c : Challenge
+  c = h .c
+
+  abbrev count : ℕ
+  count = length (h .c .places)
+
+  abbrev n : ℕ
+  n = g .z .n
+
+  abbrev row : ℕ → ℕ
+  row = namedRow g t A h
+
+  abbrev block : ℕ → ℕ
+  block = namedBlock g t A h
+
+  abbrev hidden : ℕ → ℕ
+  hidden = mask n (maskCoefficient (g .maskKey) (h .seed)) (maskRow (g .maskKey) (g .id))
+
+  -- ---- the challenge
+
+  challenge-is : challengeOf (message g t A h) ≡ h .c
+  challenge-is =
+      rw (asked-bytes (h .c) (h .lent) (h .asked))
+      (challenge-back (h .c) (in-rule (h .c) (asked-rule (h .c) (h .lent) (h .asked))) (asked-even (h .c) (h .lent) (h .asked)) (h .coefficients-bytes))
+
+  challenge-good : malformedChallenge (message g t A h) ≡ false
+  challenge-good =
+      rw (asked-bytes (h .c) (h .lent) (h .asked))
+      (well-formed (h .c) (in-rule (h .c) (asked-rule (h .c) (h .lent) (h .asked))) (asked-even (h .c) (h .lent) (h .asked)) (h .coefficients-bytes)
+      (asked-rule (h .c) (h .lent) (h .asked)))
+
+  -- ---- Prove
+
+  elements-length : length (elements g) ≡ n - 1
+  elements-length = ap length (K .elements-are) ∙ length-auxiliary n _ _
+
+  proves : proveAnswer A (g .maskKey) (elements g) (h .seed) (message g t A h) (h .out) ≡ Done
+  unfolding proveAnswer refuse proveFor anyOf
+  proves =
+      rw (
+        image-good (setting g) F t,
+        challenge-good,
+        challenge-is,
+        image-sizes (setting g) F t,
+        eq-eqb (length (g .maskKey)) 32 (K .mask-size),
+        eq-eqb (length (elements g)) (n - 1) elements-length,
+        eq-eqb (length (h .seed)) 11 (h .seed-size),
+        eq-eqb (length (h .out)) (responseLength n) (h .out-size),
+        lt-leb (g .z .nodes) (h .c .node) (h .node-there),
+        any-none count (λ j. leb (g .z .places) (at (h .c .places) j)) (λ j l. lt-leb (g .z .places) _ (h .places-there j l)),
+        any-none count (λ j. not (filledIn (g .z) A (h .c .node) (at (h .c .places) j)))
+            (λ j l. ap not (image-filled (setting g) F t (h .c .node) _ (h .node-there) (h .places-there j l) ∙ h .places-filled j l)),
+      )
+
+  -- the named places' records, combined, are the source blocks with their tags, combined by the row
+  named : (e : ℕ) → e < recordLength (g .z) → namedByte (g .z) A (h .c) e ≡ withTag (blockLength (g .z)) (vector (setting g)) block e
+  unfolding namedByte coded
+  named e he =
+      mixed-vectors count (at (h .c .coefficients)) _ _ e
+      (λ j l. image-byte (setting g) F t (h .c .node) (at (h .c .places) j) e (h .node-there) (h .places-there j l) he
+      ∙ record-mixed (setting g) F t (t (h .c .node) (at (h .c .places) j)) e)
+      ∙ mixed-mixed count (g .z .m) (at (h .c .coefficients)) (λ j. element (t (h .c .node) (at (h .c .places) j))) _ e
+      ∙ sym (tags-combine (blockLength (g .z)) (g .z .m) row (source (g .z) (g .file) (g .padding)) (vector (setting g)) e)
+
+  named-block : (e : ℕ) → e < blockLength (g .z) → namedByte (g .z) A (h .c) e ≡ block e
+  unfolding withTag
+  named-block e l = named e (omega arith) ∙ rw (lt-ltb e (blockLength (g .z)) l)
+
+  named-tag : namedByte (g .z) A (h .c) (blockLength (g .z)) ≡ product (blockLength (g .z)) block (vector (setting g))
+  unfolding withTag
+  named-tag = named (blockLength (g .z)) (omega arith) ∙ rw (le-ltb (blockLength (g .z)) (blockLength (g .z)) (omega arith))
+
+  sends : sent g t A h ≡ expected g t A h
+  unfolding proveOut afterwards provedFor responseFor
+  sends =
+      rw (proves, challenge-is, image-sizes (setting g) F t, image-id (setting g) F t)
+      (response-same n (h .c .node) _ _ _ _ _ (h .seed) _ (F .ranged .n-low) (λ i l. named-block i (omega arith)) named-tag)
+
+  -- ---- Verdict
+
+  -- the rows that the auditor hands over, combined, are the table's
+  row-given : (i : ℕ) → i < g .z .m → givenRow (g .z) (nodeRows g t A h) (h .c) i ≡ row i
+  unfolding givenRow
+  row-given i l =
+      mixed-vectors count (at (h .c .coefficients)) _ _ i (λ j lj. flat-at (g .z .places) (g .z .m) _ (at (h .c .places) j) i (h .places-there j lj) l)
+
+  abbrev total : ℕ
+  total = maskSum n (maskCoefficient (g .maskKey) (h .seed)) (elements g)
+
+  abbrev tagged : ℕ
+  tagged = product (blockLength (g .z)) block (vector (setting g))
+
+  -- what Verdict multiplies by the key vector: the block with the mask on its first n - 2 elements
+  whole : (e : ℕ) → e < blockLength (g .z)
+      → appended n (expected g t A h) (givenRow (g .z) (nodeRows g t A h) (h .c)) e ≡ plus (block e) (pick (ltb e (n - 2)) (hidden e) 0)
+  unfolding appended responseFor
+  whole e l =
+      ⊎-elim
+      (λ (a : e < n). rw (lt-ltb e n a) (response-data n (h .c .node) block tagged hidden (h .seed) total (F .ranged .n-low) (h .seed-size) e a))
+      (λ (a : n ≤ e).
+      let q : e ≡ n + (e - n) = omega arith in
+      rw (le-ltb e n a, le-ltb e (n - 2) (omega arith), xor-zero-r (block e))
+      (row-given (e - n) (omega arith)
+      ∙ sym (ap block q ∙ coded-row (g .z) (g .file) (g .padding) row (e - n) (omega arith) (mixed-lt count _ _ (e - n)))))
+      (order e n)
+
+  expected-tag : tagIn n (expected g t A h) ≡ tagged
+  unfolding responseFor
+  expected-tag = response-tag n (h .c .node) block tagged hidden (h .seed) total (F .ranged .n-low) (h .seed-size)
+
+  expected-sum : sumIn n (expected g t A h) ≡ total
+  unfolding responseFor
+  expected-sum = response-sum n (h .c .node) block tagged hidden (h .seed) total (F .ranged .n-low) (h .seed-size)
+
+  total-is : product (n - 2) hidden (vector (setting g)) ≡ total
+  total-is = sym (ap (maskSum n (maskCoefficient (g .maskKey) (h .seed))) (K .elements-are) ∙ mask-sum n _ (vector (setting g)) _)
+
+  abbrev judged : List ℕ → Bool
+  judged response = accepts (g .z) (keyVector (g .tagKey) (g .id)) (givenRow (g .z) (nodeRows g t A h) (h .c)) response
+
+  accepted-it : judged (expected g t A h) ≡ true
+  unfolding accepts
+  accepted-it =
+      eq-eqb _ _
+      (product-same (blockLength (g .z)) _ _ (vector (setting g)) whole
+      ∙ product-left (blockLength (g .z)) block _ (vector (setting g))
+      ∙ ap₂ plus (sym expected-tag) (product-cut (n - 2) (blockLength (g .z)) hidden (vector (setting g)) (omega arith) ∙ total-is ∙ sym expected-sum))
+
+  -- a response of Prove's length and first byte is not refused
+  heard : (response : List ℕ) → length response ≡ responseLength n → at response 0 ≡ at (responseHead (h .c .node)) 0
+      → says g t A h response ≡ pick (judged response) Accepted Rejected
+  unfolding verdictOf verdictFor refuse anyOf judgement
+  heard response l b =
+      rw (
+        challenge-good,
+        challenge-is,
+        not-sizes-outside (g .z) (F .ranged),
+        eq-eqb (length (g .tagKey)) 32 (K .tag-size),
+        eq-eqb (length (g .id)) 8 (F .id-size),
+        eq-eqb (length (nodeRows g t A h)) (g .z .places * g .z .m) (length-flat (g .z .places) (g .z .m) _),
+        eq-eqb (length response) (responseLength n) l,
+        lt-leb (g .z .nodes) (h .c .node) (h .node-there),
+        any-none count (λ j. leb (g .z .places) (at (h .c .places) j)) (λ j m. lt-leb (g .z .places) _ (h .places-there j m)),
+        eq-eqb (at response 0) (at (responseHead (h .c .node)) 0) b,
+      )
+
+  expected-length : length (expected g t A h) ≡ responseLength n
+  unfolding responseFor
+  expected-length = response-length n (h .c .node) block tagged hidden (h .seed) total (F .ranged .n-low) (h .seed-size)
+
+  expected-first : at (expected g t A h) 0 ≡ at (responseHead (h .c .node)) 0
+  unfolding responseFor
+  expected-first = response-first n (h .c .node) block tagged hidden (h .seed) total (F .ranged .n-low) (h .seed-size)
+
+  pub audit-holds : AuditHolds g t A h
+  audit-holds =
+      record {
+        proves = proves;
+        sends = sends;
+        accepts = rw sends (heard (expected g t A h) expected-length expected-first ∙ ap (λ (x : Bool). pick x Accepted Rejected) accepted-it);
+      }
+
+  pub altered-holds : (other : List ℕ) → length other ≡ length (sent g t A h) → at other 0 ≡ at (sent g t A h) 0
+      → ((says g t A h other ≡ Accepted) ↔ ChangesAddUp g t A h other) × ((says g t A h other ≡ Rejected) ↔ (¬ ChangesAddUp g t A h other))
+  altered-holds other l b =
+      let w = altered (g .z) (keyVector (g .tagKey) (g .id)) (givenRow (g .z) (nodeRows g t A h) (h .c)) other (sent g t A h) (ap judged sends ∙ accepted-it) in
+      rw (heard other (l ∙ ap length sends ∙ expected-length) (b ∙ ap (λ (r : List ℕ). at r 0) sends ∙ expected-first)) (
+        (λ e. w .0 .0 (is-accepted _ e), λ d. ap (λ (x : Bool). pick x Accepted Rejected) (w .0 .1 d)),
+        (λ e. w .1 .0 (is-rejected _ e), λ d. ap (λ (x : Bool). pick x Accepted Rejected) (w .1 .1 d)),
+      )
+    where
+      is-accepted : (x : Bool) → pick x Accepted Rejected ≡ Accepted → x ≡ true
+      is-accepted true e = refl
+      is-accepted false e = cc
+
+      is-rejected : (x : Bool) → pick x Accepted Rejected ≡ Rejected → x ≡ false
+      is-rejected true e = cc
+      is-rejected false e = refl

@@ -1,0 +1,94 @@
+-- Demand 3. Assumes nothing.
+use Prim.Native.Nat.{ℕ, _+_, _<_}
+use mathlib.Core.Path.{_≡_, sym, ap, _∙_, subst}
+use mathlib.Core.List.{List}
+use native.Mathlib.Omega.{arith}
+use lib.Seq.{ext-getD}
+use Rattle.lists.specs.Lists.{at, tab}
+use Rattle.lists.proofs.TabLaws.{length-tab, tab-at}
+use Rattle.lists.proofs.AnyLaws.{any-first, any-rest}
+use Rattle.answer.specs.Refusals.{afterwards}
+use Rattle.answer.proofs.RefusalLaws.{accepted, same}
+use Rattle.mask.specs.Operations.{setupAnswer, setupOut}
+use Rattle.archive.specs.Layout.{placeNumber, blockLength, openAnswer, openOut}
+use Rattle.archive.specs.Calls.{Call, archiveAnswers, archiveRun}
+use Rattle.archive.specs.Read.{rowIn}
+use Rattle.tag.proofs.SizeLaws.{ranged}
+use Rattle.promise.specs.Table.{Place, filled, Table, allEmpty, tableAnswers, tableRun}
+use Rattle.promise.specs.Image.{placeRecord, image}
+use Rattle.promise.specs.Demand3.{Given, setting, Admitted, HoldsCoded, Demand, Demand3}
+use Rattle.promise.proofs.TableLaws.{Fine, AllFine, run-fine}
+use Rattle.promise.proofs.ImageLaws.{Fit, image-mark, image-byte, record-block, record-tag, record-row, opened-is}
+use Rattle.promise.proofs.RunLaws.{runs}
+use Rattle.promise.proofs.AuditLaws.{Keys, audit-holds, altered-holds}
+use Rattle.promise.proofs.FreeLaws.{inventory, read}
+
+-- ---- what Open and Setup tested
+
+pub fits : (g : Given) → Fit (setting g)
+unfolding openAnswer
+fits g =
+    let o = accepted _ _ _ (g .open-done) in
+    record { ranged = ranged (g .z) (o .0); id-size = same _ _ (any-first _ _ (accepted _ _ _ (o .1) .0)) }
+
+keys : (g : Given) → Keys g
+unfolding setupAnswer setupOut afterwards
+keys g =
+    let lengths = accepted _ _ _ (accepted _ _ _ (g .setup-done) .1) .0 in
+    record {
+      tag-size = same _ _ (any-first _ _ lengths);
+      mask-size = same _ _ (any-first _ _ (any-rest _ _ lengths));
+      elements-are = rw (g .setup-done);
+    }
+
+open-is : (g : Given) → openOut (g .z) (g .id) (g .lent) ≡ image (setting g) allEmpty
+unfolding openOut afterwards
+open-is g = rw (g .open-done) (opened-is (setting g))
+
+-- ---- a filled place of the image
+
+module _ (g : Given) (t : Table) (node place : ℕ) (row : List ℕ) (h : node < g .z .nodes) (hp : place < g .z .places) (e : t node place ≡ filled row) where
+  abbrev F : Fit (setting g)
+  F = fits g
+
+  row-back : Fine (g .z) (filled row) → tab (g .z .m) (rowIn (g .z) (image (setting g) t) (placeNumber (g .z) node place)) ≡ row
+  row-back f =
+      ext-getD 0 _ row (length-tab (g .z .m) _ ∙ sym (f .0)) (λ i l.
+      let k : i < g .z .m = rw length-tab at l in
+      tab-at (g .z .m) _ i k ∙ image-byte (setting g) F t node place (g .z .n + i) h hp (omega arith)
+      ∙ ap (λ (x : Place). placeRecord (setting g) x (g .z .n + i)) e ∙ record-row (setting g) F t (filled row) f i k)
+
+  coded-back : HoldsCoded g (image (setting g) t) (placeNumber (g .z) node place) row
+  coded-back =
+      record {
+        block = λ a l. image-byte (setting g) F t node place a h hp (omega arith) ∙ ap (λ (x : Place). placeRecord (setting g) x a) e
+            ∙ record-block (setting g) F t (filled row) a l;
+        tag = image-byte (setting g) F t node place (blockLength (g .z)) h hp (omega arith)
+            ∙ ap (λ (x : Place). placeRecord (setting g) x (blockLength (g .z))) e ∙ record-tag (setting g) F t row;
+      }
+
+-- ---- the claim
+
+on-image : (g : Given) (calls : List Call) (t : Table) → AllFine (g .z) t
+    → archiveAnswers (openOut (g .z) (g .id) (g .lent)) calls ≡ tableAnswers (g .z) allEmpty calls → Demand g calls t (image (setting g) t)
+on-image g calls t fine answers =
+    record {
+      answers = answers;
+      marks = image-mark (setting g) (fits g) t;
+      rows = λ node place row h hp e. row-back g t node place row h hp e (subst (Fine (g .z)) e (fine node place));
+      inventory = inventory (setting g) (fits g) t fine;
+      places = coded-back g t;
+      audits = audit-holds g (fits g) (keys g) t;
+      altered = altered-holds g (fits g) (keys g) t;
+      read = read (setting g) (fits g) t fine (g .file-size) (g .file-bytes);
+    }
+
+-- the archive after the calls is the image of the table after them
+pub run-is : (g : Given) (calls : List Call) → Admitted g allEmpty calls
+    → archiveRun (openOut (g .z) (g .id) (g .lent)) calls ≡ image (setting g) (tableRun (g .z) allEmpty calls)
+run-is g calls a = rw (open-is g) (runs g (fits g) allEmpty calls a .1)
+
+pub demand3 : Demand3
+demand3 g calls a =
+    rw (run-is g calls a)
+    (on-image g calls (tableRun (g .z) allEmpty calls) (run-fine g allEmpty (λ node place. tt) calls a) (rw (open-is g) (runs g (fits g) allEmpty calls a .0)))

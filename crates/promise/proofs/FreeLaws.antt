@@ -1,0 +1,144 @@
+-- Read and Inventory on the image of a table. Assumes nothing.
+use Prim.Native.Nat.{ℕ, _+_, _-_, _*_, _/_, _%_, _<_}
+use mathlib.Core.Path.{_≡_, refl, sym, ap, ap₂, _∙_, subst}
+use mathlib.Core.Bool.{Bool}
+use mathlib.Core.List.{List}
+use mathlib.Core.Logic.{⊎-elim, _↔_, _≢_}
+use native.Mathlib.Omega.{arith}
+use lib.ListN.{length}
+use borrow.Author.Tests.{eq-eqb, ne-eqb}
+use Rattle.lists.specs.Lists.{at}
+use Rattle.answer.specs.declared.Outcome.the-variants.{Done}
+use Rattle.answer.specs.declared.Outcome.the-variants.{Refused as RefusedOutcome}
+use Rattle.answer.specs.declared.Refusal.the-variants.{Length, BadArchive, Unreadable}
+use Rattle.answer.specs.Refusals.{refuse, differs}
+use Rattle.answer.proofs.RefusalLaws.{never-both, same-refusal}
+use Rattle.field.specs.Field.{times}
+use Rattle.field.proofs.SumLaws.{sum-same}
+use Rattle.bits.specs.Fields.{bit}
+use Rattle.tag.specs.declared.Sizes.{Sizes}
+use Rattle.tag.specs.Vectors.{product, mixed}
+use Rattle.archive.specs.Layout.{placeCount, markAt, byteIn, badArchive}
+use Rattle.archive.specs.Blocks.{fileLength, coded}
+use Rattle.archive.specs.Read.{Bytes, rowIn, Blind, among, Enough, ReadFor, ReadAllows}
+use Rattle.archive.specs.Inventory.{Listed, InventoryFor, InventoryAllows}
+use Rattle.archive.specs.declared.Counted.{Counted}
+use Rattle.archive.specs.declared.Counted.the-variants.{Count, Refused}
+use Rattle.tag.proofs.SizeLaws.{Ranged}
+use Rattle.archive.proofs.SizeLaws.{count-low, node-of, place-of}
+use Rattle.archive.proofs.BlockLaws.{source-file}
+use Rattle.archive.proofs.ReadLaws.{howMany-same, blind-same, solution-only}
+use Rattle.promise.specs.Table.{Place, Table, isFilled, element, numbered}
+use Rattle.promise.specs.Image.{Setting, image}
+use Rattle.promise.proofs.TableLaws.{Fine, AllFine, numbered-below}
+use Rattle.promise.proofs.ImageLaws.{Fit, image-sizes, image-good, image-mark, image-filled, image-number, image-rows, record-block}
+
+-- ---- two that agree on the places there are
+
+module _ (z : Sizes) (R : Ranged z) (f g : ℕ → ℕ → Bool) (agree : (node place : ℕ) → node < z .nodes → place < z .places → f node place ≡ g node place) where
+  listed-same : (count : ℕ) (list : List ℕ) → Listed z f count list → Listed z g count list
+  listed-same count list l =
+      record {
+        size = l .size;
+        number = l .number ∙ howMany-same (placeCount z) _ _ (λ k h. agree (k / z .places) (k % z .places) (node-of z R k h) (place-of z R k));
+        once = λ node place h hp. l .once node place h hp ∙ ap bit (agree node place h hp);
+        only = l .only;
+        rest = l .rest;
+      }
+
+among-same : (z : Sizes) (count : ℕ) (f g : ℕ → Bool) → ((k : ℕ) → k < placeCount z → f k ≡ g k) → (k : ℕ) → k < placeCount z → among count f k ≡ among count g k
+among-same z count f g same k h = rw (same k h, howMany-same k f g (λ i l. same i (omega arith)))
+
+enough-same : (z : Sizes) (f g : ℕ → Bool) (r r′ : ℕ → ℕ → ℕ) (count : ℕ) → ((k : ℕ) → k < placeCount z → f k ≡ g k)
+    → ((k i : ℕ) → k < placeCount z → i < z .m → r k i ≡ r′ k i) → Enough z f r count → Enough z g r′ count
+enough-same z f g r r′ count same rows e =
+    record {
+      least = e .least;
+      most = rw (← howMany-same (placeCount z) f g same) (e .most);
+      suffice = λ b. e .suffice (blind-same z _ _ r′ r (λ k h. sym (among-same z count f g same k h)) (λ k i h hi. sym (rows k i h hi)) b);
+    }
+
+-- ---- answers
+
+module _ (s : Setting) (F : Fit s) (t : Table) (fine : AllFine (s .z) t) where
+  abbrev A : List ℕ
+  A = image s t
+
+  abbrev isF : ℕ → Bool
+  isF k = isFilled (numbered (s .z) t k)
+
+  abbrev row : ℕ → ℕ → ℕ
+  row k = element (numbered (s .z) t k)
+
+  before-right : (out : List ℕ) (n : ℕ) → length out ≡ n → refuse (badArchive A) BadArchive (refuse (differs (length out) n) Length Done) ≡ Done
+  unfolding refuse
+  before-right out n e = rw (image-good s F t, eq-eqb (length out) n e)
+
+  before-wrong : (out : List ℕ) (n : ℕ) → length out ≢ n → refuse (badArchive A) BadArchive (refuse (differs (length out) n) Length Done) ≡ RefusedOutcome Length
+  unfolding refuse
+  before-wrong out n e = rw (image-good s F t, ne-eqb (length out) n e)
+
+  -- ---- Inventory
+
+  pub inventory : (out : List ℕ) (answer : Counted) (list : List ℕ) → InventoryAllows A out answer list
+      → (length out ≡ placeCount (s .z) → (count : ℕ) × (answer ≡ Count count) × Listed (s .z) (λ node place. isFilled (t node place)) count list)
+      × (length out ≢ placeCount (s .z) → answer ≡ Refused Length)
+  inventory out answer list allows = go answer (subst (λ (z : Sizes). InventoryFor z A out answer list) (image-sizes s F t) allows)
+    where
+      go : (answer : Counted) → InventoryFor (s .z) A out answer list
+          → (length out ≡ placeCount (s .z) → (count : ℕ) × (answer ≡ Count count) × Listed (s .z) (λ node place. isFilled (t node place)) count list)
+          × (length out ≢ placeCount (s .z) → answer ≡ Refused Length)
+      go (Count k) w =
+          (λ e. (k, refl, listed-same (s .z) (F .ranged) _ _ (image-filled s F t) k list (w .1)), λ e. absurd (never-both (w .0) (before-wrong out _ e)))
+      go (Refused r) w =
+          (λ e. absurd (never-both (before-right out _ e) (w .1)), λ e. ap Refused (same-refusal (w .1) (before-wrong out _ e)))
+
+  -- ---- Read
+
+  mark-is : (k : ℕ) → k < placeCount (s .z) → markAt A k ≡ isF k
+  mark-is k h = image-mark s F t k (omega (arith, count-low (s .z) (F .ranged)))
+
+  fine-at : (k : ℕ) → k < placeCount (s .z) → Fine (s .z) (numbered (s .z) t k)
+  fine-at k h = subst (Fine (s .z)) (sym (numbered-below (s .z) (F .ranged) t k h)) (fine (k / s .z .places) (k % s .z .places))
+
+  row-is : (k i : ℕ) → k < placeCount (s .z) → i < s .z .m → rowIn (s .z) A k i ≡ row k i
+  row-is k i h hi = image-rows s F t k i (fine-at k h) h hi
+
+  to-table : Blind (s .z) (markAt A) (rowIn (s .z) A) → Blind (s .z) isF row
+  to-table = blind-same (s .z) _ _ _ _ mark-is row-is
+
+  to-archive : Blind (s .z) isF row → Blind (s .z) (markAt A) (rowIn (s .z) A)
+  to-archive = blind-same (s .z) _ _ _ _ (λ k h. sym (mark-is k h)) (λ k i h hi. sym (row-is k i h hi))
+
+  -- the file solves every place's equations
+  file-solves : (k e : ℕ) → k < placeCount (s .z) → e < s .z .n - 2
+      → product (s .z .m) (rowIn (s .z) A k) (λ i. at (s .file) (i * (s .z .n - 2) + e)) ≡ byteIn (s .z) A k e
+  unfolding product coded mixed
+  file-solves k e h he =
+      let x : Place = numbered (s .z) t k in
+      sym (image-number s F t k e h (omega arith) ∙ record-block s F t x e (omega arith)
+      ∙ sum-same (s .z .m) _ _ (λ i hi. ap₂ times (sym (row-is k i h hi)) (source-file (s .z) (s .file) (s .padding) i e he)))
+
+  pub read : length (s .file) ≡ fileLength (s .z) → Bytes (s .file)
+      → (out : List ℕ) (answer : Counted) (file : List ℕ) → length out ≡ fileLength (s .z) → ReadAllows A out answer file
+      → ((answer ≡ Refused Unreadable) ↔ Blind (s .z) isF row)
+      × ((¬ Blind (s .z) isF row) → (count : ℕ) × (answer ≡ Count count) × (file ≡ s .file) × Enough (s .z) isF row count)
+  read size bytes out answer file long allows = go answer (subst (λ (z : Sizes). ReadFor z A out answer file) (image-sizes s F t) allows)
+    where
+      go : (answer : Counted) → ReadFor (s .z) A out answer file
+          → ((answer ≡ Refused Unreadable) ↔ Blind (s .z) isF row)
+          × ((¬ Blind (s .z) isF row) → (count : ℕ) × (answer ≡ Count count) × (file ≡ s .file) × Enough (s .z) isF row count)
+      go (Count k) w = (
+        (λ e. let x : _≡_ {A = ℕ} 0 1 = cc in absurd (omega arith), λ b. absurd (w .1 (to-archive b))),
+        λ nb. (
+          k,
+          refl,
+          solution-only (s .z) A file (s .file) (w .2) (F .ranged .n-low) size bytes (λ k e h tk he. file-solves k e h he) (w .1),
+          enough-same (s .z) _ _ _ _ k mark-is row-is (w .3),
+        ),
+      )
+      go (Refused r) w =
+          ⊎-elim
+          (λ x. absurd (never-both (before-right out _ long) x))
+          (λ x. ((λ e. to-table (x .2), λ b. ap Refused (x .1)), λ nb. absurd (nb (to-table (x .2)))))
+          (w .1)

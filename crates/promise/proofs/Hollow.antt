@@ -1,0 +1,119 @@
+-- What rules hollow programs out. Assumes nothing.
+use Prim.Native.Nat.{ℕ, zero, suc, _<_}
+use mathlib.Core.Path.{_≡_, refl, sym, ap, _∙_}
+use mathlib.Core.Bool.{Bool, true, false}
+use mathlib.Core.List.{List, [], _∷_}
+use mathlib.Core.Logic.{⊎-elim}
+use native.Mathlib.Nat.{div-add-mod'}
+use native.Mathlib.Omega.{arith}
+use Rattle.lists.specs.Lists.{tab, over, anyOf}
+use Rattle.answer.specs.declared.Outcome.the-variants.{Done}
+use Rattle.answer.specs.declared.Outcome.the-variants.{Refused as RefusedOutcome}
+use Rattle.answer.specs.declared.Refusal.the-variants.{Length, BadArchive, Unreadable}
+use Rattle.answer.specs.Refusals.{refuse, afterwards}
+use Rattle.field.specs.Field.{sum, modulus, xtime, xtimes, times}
+use Rattle.keystream.specs.ChaCha.{half, quarterOf, setFour, quarter, quadruples, quartersTo, rounds, blockWords, serialised, wordAt, start, blockOf}
+use Rattle.keystream.specs.Draws.{byteAt}
+use Rattle.bits.specs.Fields.{bitOf, bitsOf, widths, number, packed, pack}
+use Rattle.tag.specs.Vectors.{product, mixed}
+use Rattle.mask.specs.Masks.{F2, maskRow, auxiliary, mask, maskSum}
+use Rattle.mask.specs.Response.{responseBytes, dataIn}
+use Rattle.audit.specs.Verdict.{namedRow, appended, accepts}
+use Rattle.archive.specs.Layout.{recordLength, placeCount, placeNumber, sizesOf, markAt, byteIn}
+use Rattle.archive.specs.Blocks.{source, coded}
+use Rattle.archive.specs.Calls.{answerFor, archiveAnswer, archiveAfter}
+use Rattle.archive.specs.Prove.{namedByte}
+use Rattle.archive.specs.Read.{howMany, rowIn, Blind, ReadAllows}
+use Rattle.archive.specs.Inventory.{InventoryAllows}
+use Rattle.archive.specs.declared.Counted.the-variants.{Count, Refused}
+use Rattle.archive.proofs.ReadLaws.{howMany-same}
+use Rattle.promise.specs.Table.{Place, empty, Table, allEmpty, isFilled, numbered, written, tableRun}
+use Rattle.promise.specs.Image.{placeRecord}
+use Rattle.promise.specs.Demand3.{setting, Admitted}
+use Rattle.promise.specs.Life as L
+use Rattle.promise.specs.Worked as W
+use Rattle.promise.specs.Hollow.{fresh, firstCall, Hollow}
+use Rattle.promise.proofs.ImageLaws.{image-mark, image-number}
+use Rattle.promise.proofs.DemandLaws.{fits, run-is, demand3}
+use Rattle.promise.proofs.Life.{two-bytes, given, lived}
+
+-- ---- the life in numbers
+
+row-is : tab 2 (rowIn L.z L.archive (placeNumber L.z 2 0)) ≡ 0xf3 ∷ 0xfe ∷ []
+unfolding tab byteIn
+row-is = rw (lived .archive-is)
+
+bytes-are : tab (recordLength L.z) (byteIn L.z L.archive (placeNumber L.z 2 0)) ≡ 0x2a ∷ 0xf3 ∷ 0xd5 ∷ 0xf3 ∷ 0xfe ∷ 0xbd ∷ []
+unfolding tab byteIn
+bytes-are = rw (lived .archive-is)
+
+first-row : maskRow L.maskKey L.id 0 0 ≡ 111
+unfolding maskRow F2 byteAt half quarterOf setFour quarter quadruples quartersTo rounds blockWords serialised wordAt start blockOf tab
+first-row = refl
+
+second-row : maskRow L.maskKey L.id 1 0 ≡ 167
+unfolding maskRow F2 byteAt half quarterOf setFour quarter quadruples quartersTo rounds blockWords serialised wordAt start blockOf tab
+second-row = refl
+
+-- ---- its first call
+
+one-call : Admitted given allEmpty (firstCall ∷ [])
+one-call = (λ e. (refl, refl, refl, two-bytes 0x01 0x00 (omega arith) (omega arith)), tt)
+
+abbrev after-one : Table
+after-one = tableRun L.z allEmpty (firstCall ∷ [])
+
+other-empty : (k : ℕ) → 0 < k → k < 6 → numbered L.z after-one k ≡ empty
+unfolding numbered answerFor refuse anyOf afterwards written over
+other-empty zero h l = absurd (omega arith)
+other-empty (suc zero) h l = refl
+other-empty (suc (suc zero)) h l = refl
+other-empty (suc (suc (suc zero))) h l = refl
+other-empty (suc (suc (suc (suc zero)))) h l = refl
+other-empty (suc (suc (suc (suc (suc zero))))) h l = refl
+other-empty (suc (suc (suc (suc (suc (suc k)))))) h l = absurd (omega arith)
+
+one-place-only : (k : ℕ) → 0 < k → k < placeCount L.z
+    → (markAt (archiveAfter fresh firstCall) k ≡ false) × ((e : ℕ) → e < recordLength L.z → byteIn L.z (archiveAfter fresh firstCall) k e ≡ 0)
+one-place-only k h l =
+    rw (run-is given (firstCall ∷ []) one-call) (
+      image-mark (setting given) (fits given) after-one k (omega arith) ∙ ap isFilled (other-empty k h l),
+      λ e he. image-number (setting given) (fits given) after-one k e l he ∙ ap (λ (x : Place). placeRecord (setting given) x e) (other-empty k h l),
+    )
+
+first-answer : archiveAnswer fresh firstCall ≡ Done
+unfolding answerFor refuse anyOf
+first-answer = let e : archiveAnswer fresh firstCall ∷ [] ≡ Done ∷ [] = demand3 given (firstCall ∷ []) one-call .answers in cc
+
+-- ---- Read and Inventory
+
+not-unreadable : (a b : Bool) → refuse a BadArchive (refuse b Length Done) ≡ RefusedOutcome Unreadable → ⊥
+unfolding refuse
+not-unreadable true b e = let x : _≡_ {A = ℕ} 0 1 = cc in omega arith
+not-unreadable false true e = let x : _≡_ {A = ℕ} 0 1 = cc in omega arith
+not-unreadable false false e = let x : _≡_ {A = ℕ} 0 1 = cc in omega arith
+
+seen-blind : (s out written : List ℕ) → ReadAllows s out (Refused Unreadable) written → Blind (sizesOf s) (markAt s) (rowIn (sizesOf s) s)
+seen-blind s out written w = ⊎-elim (λ e. absurd (not-unreadable _ _ e)) (λ x. x .2) (w .1)
+
+counted-right : (s out list : List ℕ) (count : ℕ) → InventoryAllows s out (Count count) list → count ≡ howMany (placeCount (sizesOf s)) (markAt s)
+counted-right s out list count w =
+    w .1 .number ∙ howMany-same (placeCount (sizesOf s)) _ (markAt s) (λ k h. ap (markAt s) (div-add-mod' k (sizesOf s .places)))
+
+pub hollow : Hollow
+unfolding product sum times xtimes xtime modulus appended dataIn namedRow mixed coded source mask maskSum auxiliary responseBytes pack packed bitsOf bitOf widths number tab accepts namedByte byteIn
+hollow =
+    record {
+      without-mask-sum = refl;
+      replayed = refl;
+      repaired-row = row-is;
+      rows-differ = λ e. let x : _≡_ {A = ℕ} 111 167 = sym first-row ∙ e ∙ second-row in omega arith;
+      one-accepted = refl;
+      one-rejected = refl;
+      accepted = first-answer;
+      repaired-bytes = bytes-are;
+      one-place = one-place-only;
+      seen = seen-blind;
+      counted = counted-right;
+      consulted = λ s out file count w. w .3;
+    }

@@ -1,0 +1,92 @@
+-- Each call does to the image what it does to the table; so does every list of calls. Assumes nothing.
+use Prim.Native.Nat.{ℕ, _<_}
+use mathlib.Core.Path.{_≡_, refl, ap}
+use mathlib.Core.Bool.{Bool, true, false, not}
+use mathlib.Core.List.{List, [], _∷_}
+use native.Mathlib.Omega.{arith}
+use lib.Dec.{leb}
+use lib.ListN.{length}
+use borrow.Author.Tests.{leb-false}
+use Rattle.lists.specs.Lists.{at, anyOf, anyBelow}
+use Rattle.lists.proofs.AnyLaws.{any-first, any-rest, any-below, any-same}
+use Rattle.answer.specs.declared.Outcome.{Outcome}
+use Rattle.answer.specs.declared.Outcome.the-variants.{Done, Refused}
+use Rattle.answer.specs.declared.Refusal.the-variants.{Size, Length, NoSuchPlace, PlaceEmpty, PlaceFilled}
+use Rattle.answer.specs.Refusals.{refuse, afterwards}
+use Rattle.answer.proofs.RefusalLaws.{accepted, refuse-same}
+use Rattle.tag.specs.declared.Sizes.{Sizes}
+use Rattle.archive.specs.Calls.{Call, encode, lose, repair, answerFor, archiveAnswer, effectFor, archiveAfter, archiveAnswers, archiveRun}
+use Rattle.promise.specs.Table.{empty, filled, Table, tableAnswer, tableEffect, tableAfter, tableAnswers, tableRun}
+use Rattle.promise.specs.Image.{image}
+use Rattle.promise.specs.Demand3.{Given, setting, TakesOne, Admitted}
+use Rattle.promise.proofs.ImageLaws.{Fit, image-sizes, image-id, image-good, image-filled, image-stored, image-repaired}
+
+-- node and place are there; target and helpers are there
+encode-there : (z : Sizes) (node place : ℕ) → anyOf (leb (z .nodes) node ∷ leb (z .places) place ∷ []) ≡ false → (node < z .nodes) × (place < z .places)
+encode-there z node place e = (leb-false (z .nodes) node (any-first _ _ e), leb-false (z .places) place (any-first _ _ (any-rest _ _ e)))
+
+repair-there : (z : Sizes) (target : ℕ) (helpers : List ℕ)
+    → anyOf (leb (z .nodes) target ∷ anyBelow (length helpers) (λ i. leb (z .nodes) (at helpers i)) ∷ []) ≡ false
+    → (target < z .nodes) × ((i : ℕ) → i < length helpers → at helpers i < z .nodes)
+repair-there z target helpers e = (
+  leb-false (z .nodes) target (any-first _ _ e),
+  λ i h. leb-false (z .nodes) (at helpers i) (any-below (length helpers) _ (any-first _ _ (any-rest _ _ e)) i h),
+)
+
+-- the same places filled, the same answer
+answer-same : (z : Sizes) (f g : ℕ → ℕ → Bool) → ((node place : ℕ) → node < z .nodes → place < z .places → f node place ≡ g node place)
+    → (c : Call) → answerFor z f c ≡ answerFor z g c
+unfolding answerFor
+answer-same z f g same (encode node place file padding key row) =
+    refuse-same _ _ Length _ _ refl (λ _. refuse-same _ _ NoSuchPlace _ _ refl (λ n.
+    refuse-same _ _ PlaceFilled _ _ (same node place (encode-there z node place n .0) (encode-there z node place n .1)) (λ _. refl)))
+answer-same z f g same (lose node) = refl
+answer-same z f g same (repair target helpers q gammas thetas scratch) =
+    refuse-same _ _ Size _ _ refl (λ _. refuse-same _ _ Length _ _ refl (λ _. refuse-same _ _ NoSuchPlace _ _ refl (λ n.
+    let w : (target < z .nodes) × ((i : ℕ) → i < length helpers → at helpers i < z .nodes) = repair-there z target helpers n in
+    refuse-same _ _ PlaceFilled _ _ (any-same (z .places) _ _ (λ k h. same target k (w .0) h)) (λ _.
+    refuse-same _ _ PlaceEmpty _ _
+    (any-same (length helpers) _ _ (λ i h. any-same (z .places) _ _ (λ l hl. ap not (same (at helpers i) l (w .1 i h) hl)))) (λ _. refl)))))
+
+module _ (g : Given) (F : Fit (setting g)) where
+  -- ---- one call
+
+  image-answer : (t : Table) (c : Call) → archiveAnswer (image (setting g) t) c ≡ tableAnswer (g .z) t c
+  unfolding archiveAnswer refuse
+  image-answer t c = rw (image-good (setting g) F t, image-sizes (setting g) F t) (answer-same (g .z) _ _ (image-filled (setting g) F t) c)
+
+  image-effect : (t : Table) (c : Call) → tableAnswer (g .z) t c ≡ Done → TakesOne g c
+      → effectFor (g .z) (g .id) (image (setting g) t) c ≡ image (setting g) (tableEffect (g .z) t c)
+  unfolding effectFor answerFor
+  image-effect t (encode node place file padding key row) e o =
+      let w : (node < g .z .nodes) × (place < g .z .places) = encode-there (g .z) node place (accepted _ _ _ (accepted _ _ _ e .1) .0) in
+      rw (o .0, o .1, o .2)
+      (image-stored (setting g) F t true node place 1 (λ j. filled row) _ (w .0) (omega arith) (λ j h. refl) (λ j e h he. refl))
+  image-effect t (lose node) e o =
+      image-stored (setting g) F t false node 0 (g .z .places) (λ j. empty) (λ j e. 0) (leb-false (g .z .nodes) node (accepted _ _ _ e .0)) (omega arith)
+      (λ j h. refl) (λ j e h he. refl)
+  image-effect t (repair target helpers q gammas thetas scratch) e o =
+      let w : (target < g .z .nodes) × ((i : ℕ) → i < length helpers → at helpers i < g .z .nodes) =
+      repair-there (g .z) target helpers (accepted _ _ _ (accepted _ _ _ (accepted _ _ _ e .1) .1) .0) in
+      image-stored (setting g) F t true target 0 (g .z .places) _ _ (w .0) (omega arith) (λ j h. refl)
+      (λ k e h he. image-repaired (setting g) F t helpers q gammas thetas (w .1) k e he)
+
+  image-after : (t : Table) (c : Call) → (tableAnswer (g .z) t c ≡ Done → TakesOne g c)
+      → archiveAfter (image (setting g) t) c ≡ image (setting g) (tableAfter (g .z) t c)
+  unfolding archiveAfter afterwards
+  image-after t c o = rw (image-answer t c, image-sizes (setting g) F t, image-id (setting g) F t) (go (tableAnswer (g .z) t c) refl)
+    where
+      go : (a : Outcome) → tableAnswer (g .z) t c ≡ a
+          → afterwards a (image (setting g) t) (effectFor (g .z) (g .id) (image (setting g) t) c) ≡ image (setting g) (afterwards a t (tableEffect (g .z) t c))
+      go Done e = image-effect t c e (o e)
+      go (Refused r) e = refl
+
+  -- ---- every list of calls
+
+  pub runs : (t : Table) (calls : List Call) → Admitted g t calls
+      → (archiveAnswers (image (setting g) t) calls ≡ tableAnswers (g .z) t calls)
+      × (archiveRun (image (setting g) t) calls ≡ image (setting g) (tableRun (g .z) t calls))
+  runs t [] a = (refl, refl)
+  runs t (c ∷ cs) a =
+      let w = runs (tableAfter (g .z) t c) cs (a .1) in
+      (rw (image-answer t c, image-after t c (a .0), w .0), rw (image-after t c (a .0)) (w .1))

@@ -1,0 +1,170 @@
+-- Demand 3 (docs/STATEMENT.md has the demands in full), in document 01's terms: "a single claim about the whole list, and not one
+-- for each call".
+use Prim.Native.Nat.{ℕ, _<_}
+use mathlib.Core.Path.{_≡_}
+use mathlib.Core.Logic.{_↔_, _≢_}
+use mathlib.Core.Bool.{true}
+use mathlib.Core.List.{List, [], _∷_}
+use lib.ListN.{length}
+use Rattle.lists.specs.Lists.{at, tab, flat}
+use Rattle.answer.specs.declared.Outcome.the-variants.{Done}
+use Rattle.answer.specs.declared.Refusal.the-variants.{Length, Unreadable}
+use Rattle.field.specs.Field.{plus}
+use Rattle.tag.specs.declared.Sizes.{Sizes}
+use Rattle.tag.specs.Vectors.{product, mixed}
+use Rattle.mask.specs.Operations.{setupAnswer, setupOut}
+use Rattle.mask.specs.Response.{responseLength, dataIn, sumIn, tagIn}
+use Rattle.audit.specs.Challenge.{Challenge, challengeAnswer, challengeOut}
+use Rattle.audit.specs.Verdict.{verdictOf}
+use Rattle.audit.specs.declared.Judgement.{Judgement}
+use Rattle.audit.specs.declared.Judgement.the-variants.{Accepted, Rejected}
+use Rattle.archive.specs.Layout.{placeCount, blockLength, placeNumber, markAt, byteIn, openAnswer, openOut}
+use Rattle.archive.specs.Blocks.{fileLength, paddingLength, coded}
+use Rattle.archive.specs.Calls.{Call, encode, lose, repair, archiveAnswers, archiveRun}
+use Rattle.archive.specs.Prove.{proveAnswer, responseFor, proveOut}
+use Rattle.archive.specs.Read.{Bytes, rowIn, Blind, Enough, ReadAllows}
+use Rattle.archive.specs.Inventory.{Listed, InventoryAllows}
+use Rattle.archive.specs.declared.Counted.{Counted}
+use Rattle.archive.specs.declared.Counted.the-variants.{Count, Refused}
+use Rattle.promise.specs.Table.{filled, Table, allEmpty, isFilled, element, numbered, tableAnswer, tableAfter, tableAnswers, tableRun}
+use Rattle.promise.specs.Image.{Setting, vector}
+
+-- ---- the premises
+
+-- "Take a newly opened archive, one file, one padding and one pair of keys that Setup accepted"
+pub record Given : Type 0 where
+  pub z : Sizes
+  pub id : List ℕ
+  -- "Its archive is as Open wrote it, in any sizes"
+  pub lent : List ℕ
+  pub open-done : openAnswer z id lent ≡ Done
+  pub file : List ℕ
+  pub file-size : length file ≡ fileLength z
+  pub file-bytes : Bytes file
+  pub padding : List ℕ
+  pub padding-size : length padding ≡ paddingLength z
+  -- "The keys are ones that Setup accepted for the archive's id and n"
+  pub tagKey : List ℕ
+  pub maskKey : List ℕ
+  pub elements-lent : List ℕ
+  pub setup-done : setupAnswer tagKey maskKey id (z .n) elements-lent ≡ Done
+
+abbrev pub setting : Given → Setting
+setting g = record { z = g .z; id = g .id; file = g .file; padding = g .padding; tagKey = g .tagKey }
+
+-- "Setup's elements"
+abbrev pub elements : Given → List ℕ
+elements g = setupOut (g .tagKey) (g .maskKey) (g .id) (g .z .n) (g .elements-lent)
+
+-- an Encode that takes the one file, padding and tag key; its row is of bytes
+abbrev pub TakesOne : Given → Call → Type 0
+TakesOne g (encode node place file padding key row) = (file ≡ g .file) × (padding ≡ g .padding) × (key ≡ g .tagKey) × Bytes row
+TakesOne g (lose node) = Unit {0}
+TakesOne g (repair target helpers q gammas thetas scratch) = Unit {0}
+
+-- "Every Encode that the table accepts takes the one file, padding and tag key; a refused call may carry anything"
+abbrev pub Admitted : Given → Table → List Call → Type 0
+Admitted g t [] = Unit {0}
+Admitted g t (c ∷ cs) = (tableAnswer (g .z) t c ≡ Done → TakesOne g c) × Admitted g (tableAfter (g .z) t c) cs
+
+-- ---- an honest audit
+
+-- "an accepted Challenge that names filled places of a box", a seed, "all with buffers of the right lengths"
+pub record Honest (g : Given) (t : Table) : Type 0 where
+  pub c : Challenge
+  pub lent : List ℕ
+  pub asked : challengeAnswer c lent ≡ Done
+  pub coefficients-bytes : Bytes (c .coefficients)
+  pub node-there : c .node < g .z .nodes
+  pub places-there : (j : ℕ) → j < length (c .places) → at (c .places) j < g .z .places
+  pub places-filled : (j : ℕ) → j < length (c .places) → isFilled (t (c .node) (at (c .places) j)) ≡ true
+  pub seed : List ℕ
+  pub seed-size : length seed ≡ 11
+  pub out : List ℕ
+  pub out-size : length out ≡ responseLength (g .z .n)
+
+module _ (g : Given) (t : Table) (archive : List ℕ) (h : Honest g t) where
+  -- what Challenge wrote
+  abbrev pub message : List ℕ
+  message = challengeOut (h .c) (h .lent)
+
+  -- "Prove on it with Setup's elements, the mask key and a seed"
+  abbrev pub sent : List ℕ
+  sent = proveOut archive (g .maskKey) (elements g) (h .seed) message (h .out)
+
+  -- "the box's rows from this table, zeros for empty places"
+  abbrev pub nodeRows : List ℕ
+  nodeRows = flat (g .z .places) (g .z .m) (λ place. element (t (h .c .node) place))
+
+  -- "then Verdict with the tag key, the archive's id and sizes, and" those rows
+  abbrev pub says : List ℕ → Judgement
+  says response = verdictOf (g .tagKey) (g .id) (g .z) nodeRows message response
+
+  -- the table's rows of the named places, combined by the challenge; the source blocks combined by that row
+  abbrev pub namedRow : ℕ → ℕ
+  namedRow = mixed (length (h .c .places)) (at (h .c .coefficients)) (λ j. element (t (h .c .node) (at (h .c .places) j)))
+
+  abbrev pub namedBlock : ℕ → ℕ
+  namedBlock = coded (g .z) (g .file) (g .padding) namedRow
+
+  -- "document 01's response" for that block and its tag
+  abbrev pub expected : List ℕ
+  expected =
+      responseFor (g .z .n) (g .id) (g .maskKey) (elements g) (h .seed) (h .c .node) namedBlock
+      (product (blockLength (g .z)) namedBlock (vector (setting g)))
+
+  pub record AuditHolds : Type 0 where
+    pub proves : proveAnswer archive (g .maskKey) (elements g) (h .seed) message (h .out) ≡ Done
+    pub sends : sent ≡ expected
+    pub accepts : says sent ≡ Accepted
+
+  -- "A change is the sum of that response's element and Prove's at the same position; the n data elements meet the first n of the key
+  -- vector": the changes of the data elements, times the key vector, add up to the changes of tag and mask sum
+  abbrev pub ChangesAddUp : List ℕ → Type 0
+  ChangesAddUp other =
+      product (g .z .n) (λ e. plus (dataIn (g .z .n) other e) (dataIn (g .z .n) sent e)) (vector (setting g))
+      ≡ plus (plus (tagIn (g .z .n) other) (tagIn (g .z .n) sent)) (plus (sumIn (g .z .n) other) (sumIn (g .z .n) sent))
+
+-- ---- the conclusion
+
+-- a place holds "the source blocks combined by its row, and that combination's tag"
+pub record HoldsCoded (g : Given) (archive : List ℕ) (k : ℕ) (row : List ℕ) : Type 0 where
+  pub block : (e : ℕ) → e < blockLength (g .z) → byteIn (g .z) archive k e ≡ coded (g .z) (g .file) (g .padding) (at row) e
+  pub tag : byteIn (g .z) archive k (blockLength (g .z)) ≡ product (blockLength (g .z)) (coded (g .z) (g .file) (g .padding) (at row)) (vector (setting g))
+
+-- some non-zero vector of m elements is orthogonal to every filled row of the table
+abbrev pub TableBlind : Sizes → Table → Type 0
+TableBlind z t = Blind z (λ k. isFilled (numbered z t k)) (λ k. element (numbered z t k))
+
+pub record Demand (g : Given) (calls : List Call) (t : Table) (archive : List ℕ) : Type 0 where
+  -- "All answers, fill marks and stored rows are those of document 01's row table"
+  pub answers : archiveAnswers (openOut (g .z) (g .id) (g .lent)) calls ≡ tableAnswers (g .z) allEmpty calls
+  pub marks : (k : ℕ) → k < 48 → markAt archive k ≡ isFilled (numbered (g .z) t k)
+  pub rows : (node place : ℕ) (row : List ℕ) → node < g .z .nodes → place < g .z .places → t node place ≡ filled row
+      → tab (g .z .m) (rowIn (g .z) archive (placeNumber (g .z) node place)) ≡ row
+  -- "Inventory names exactly its filled places, each once, and their number"; "another length is 2"
+  pub inventory : (out : List ℕ) (answer : Counted) (list : List ℕ) → InventoryAllows archive out answer list
+      → (length out ≡ placeCount (g .z) → (count : ℕ) × (answer ≡ Count count) × Listed (g .z) (λ node place. isFilled (t node place)) count list)
+      × (length out ≢ placeCount (g .z) → answer ≡ Refused Length)
+  -- "Each filled place holds the source blocks combined by its row, and that combination's tag"
+  pub places : (node place : ℕ) (row : List ℕ) → node < g .z .nodes → place < g .z .places → t node place ≡ filled row
+      → HoldsCoded g archive (placeNumber (g .z) node place) row
+  -- "Every honest audit against those rows, with any seed, sends document 01's response and accepts"
+  pub audits : (h : Honest g t) → AuditHolds g t archive h
+  -- "Any other response of the same length and first byte is accepted exactly when the changes .. add up"
+  pub altered : (h : Honest g t) (other : List ℕ) → length other ≡ length (sent g t archive h) → at other 0 ≡ at (sent g t archive h) 0
+      → ((says g t archive h other ≡ Accepted) ↔ ChangesAddUp g t archive h other)
+      × ((says g t archive h other ≡ Rejected) ↔ (¬ ChangesAddUp g t archive h other))
+  -- "Read, lent an output of the file's length, is refused, with 8, exactly when some non-zero vector of m elements is orthogonal to
+  -- every filled row, and otherwise writes the file"; the places it consulted are enough of the table's too
+  pub read : (out : List ℕ) (answer : Counted) (file : List ℕ) → length out ≡ fileLength (g .z) → ReadAllows archive out answer file
+      → ((answer ≡ Refused Unreadable) ↔ TableBlind (g .z) t)
+      × ((¬ TableBlind (g .z) t)
+      → (count : ℕ) × (answer ≡ Count count) × (file ≡ g .file)
+      × Enough (g .z) (λ k. isFilled (numbered (g .z) t k)) (λ k. element (numbered (g .z) t k)) count)
+
+-- "The table, all empty at first, is fed the same calls"
+abbrev pub Demand3 : Type 0
+Demand3 =
+    (g : Given) (calls : List Call) → Admitted g allEmpty calls
+    → Demand g calls (tableRun (g .z) allEmpty calls) (archiveRun (openOut (g .z) (g .id) (g .lent)) calls)

@@ -1,0 +1,47 @@
+// What the archive promises, as theorems: each is carried by an empty function, so that the crate is not proved without its proof.
+ghost use Rattle.promise.specs.Demand3.{Demand3};
+ghost use Rattle.promise.specs.Life.{Lived};
+ghost use Rattle.promise.specs.Worked.{Worked};
+ghost use Rattle.promise.specs.Tries.{Tries};
+ghost use Rattle.promise.specs.Hollow.{Hollow};
+ghost use Rattle.promise.specs.Companions.{Unmasking, ReadIsFixed, InventoryIsFixed};
+
+// Demand 3: a single claim about every list of Encode, Lose and Repair calls.
+pub fn demand3()
+    ensures { λ _. ⌜ Demand3 ⌝ }
+{}
+
+// Unmasking gives the block that was masked, for every archive.
+pub fn unmasking()
+    ensures { λ _. ⌜ Unmasking ⌝ }
+{}
+
+// Read's file is fixed for every archive, damaged ones too.
+pub fn read_is_fixed()
+    ensures { λ _. ⌜ ReadIsFixed ⌝ }
+{}
+
+// Inventory's number is fixed, and its list up to the order.
+pub fn inventory_is_fixed()
+    ensures { λ _. ⌜ InventoryIsFixed ⌝ }
+{}
+
+// The premises of demand 3 can be met: a concrete life, its bytes computed.
+pub fn premises_can_be_met()
+    ensures { λ _. ⌜ Lived ⌝ }
+{}
+
+// The starred worked values of document 01, as one table.
+pub fn worked_values()
+    ensures { λ _. ⌜ Worked ⌝ }
+{}
+
+// What a reader would try on the definitions first.
+pub fn first_tries()
+    ensures { λ _. ⌜ Tries ⌝ }
+{}
+
+// For each mistake and hollow program that document 01 lists, the fact that rules it out.
+pub fn no_hollow_program()
+    ensures { λ _. ⌜ Hollow ⌝ }
+{}

@@ -1,0 +1,19 @@
+use borrow.Author.Needs.{needs}
+use mathlib.Core.Path.{ap₂, _∙_}
+use mathlib.Core.Bool.{_||_}
+use Rattle.lists.proofs.AnyLaws.{any-four}
+use Rattle.tag.specs.Sizes.{sizesOutside}
+use Rattle.tag.proofs.sizes_outside.Statement.{statement}
+use Rattle.tag.proofs.sizes_outside.Tie as tie
+
+returns : tie.Need-returns
+unfolding sizesOutside
+returns c =
+    let b = c .before in
+    ap₂ _||_ (ap₂ _||_ (ap₂ _||_ (b .before .before .outside .ensures) (b .before .outside2 .ensures)) (b .outside3 .ensures)) (c .outside4 .ensures)
+    ∙ any-four _ _ _ _
+
+pub sizes-outside-spec : {M : Type 1} → statement M
+sizes-outside-spec =
+    tie.close
+    (tie.spec (λ c κs. search needs) (λ c κs. search needs) (λ c κs. search needs) (λ c κs. search needs) returns)

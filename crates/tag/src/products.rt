@@ -1,0 +1,122 @@
+// Products and combinations of lent bytes, over lent tables.
+ghost use mathlib.Core.Path.{_≡_};
+ghost use Prim.Native.Nat.{_+_, _-_, _*_, _<_, _≤_};
+ghost use lib.ListN.{length};
+ghost use Rattle.lists.specs.Lists.{at};
+ghost use Rattle.field.specs.Field.{times, power};
+ghost use Rattle.field.specs.Tables.{PowerTable, LogTable};
+ghost use Rattle.keystream.specs.Draws.{drawn, after};
+ghost use Rattle.tag.specs.Vectors.{product, mixed, added};
+use keystream::Stream;
+
+// A product, and the stream behind the bytes that were drawn for it.
+pub struct Summed {
+    pub total: u8,
+    pub stream: Stream,
+}
+
+// The product of the first len bytes of two vectors.
+pub fn product_of(powers: &[u8; 510], logs: &[u8; 256], u: &[u8], v: &[u8], len: usize) -> u8
+    requires { ⌜ PowerTable (now powers) × LogTable (now logs) × (len ≤ length (now u)) × (len ≤ length (now v)) ⌝ }
+    ensures { λ r. ⌜ r ≡ product len (at (now (u .entry))) (at (now (v .entry))) ⌝ }
+{
+    let mut total = 0u8;
+    for e in 0..len {
+        total = total ^ field::product(powers, logs, u[e], v[e]);
+    }
+    total
+}
+
+// The product of len bytes, from `first` on, and as many bytes of a stream.
+pub fn product_drawn(
+    powers: &[u8; 510],
+    logs: &[u8; 256],
+    u: &[u8],
+    first: usize,
+    len: usize,
+    s: Stream,
+) -> Summed
+    requires { ⌜ PowerTable (now powers) × LogTable (now logs) × (first + len ≤ length (now u)) ⌝ }
+    ensures total { λ r. ⌜ r .total ≡ product len (λ e. at (now (u .entry)) (first + e)) (λ e. drawn (after e s) .byte) ⌝ }
+    ensures stream { λ r. ⌜ r .stream ≡ after len s ⌝ }
+{
+    let mut total = 0u8;
+    let mut t = s;
+    for e in 0..len {
+        let d = t.next();
+        total = total ^ field::product(powers, logs, u[first + e], d.byte);
+        let next = d.stream;
+        t = next;
+    }
+    Summed { total, stream: t }
+}
+
+// 03 to the k times len bytes, from `first` on, added to those of out from `from` on.
+fn add_raised(
+    powers: &[u8; 510],
+    logs: &[u8; 256],
+    k: usize,
+    u: &[u8],
+    first: usize,
+    out: &mut [u8],
+    from: usize,
+    len: usize,
+)
+    requires { ⌜ PowerTable (now powers) × LogTable (now logs) × (k < 255) × (first + len ≤ length (now u)) × (from + len ≤ length (now out)) ⌝ }
+    ensures { λ _. ⌜ now (out .exit) ≡ added len from (λ e. times (power 3 k) (at (now (u .entry)) (first + e))) (now (out .entry)) ⌝ }
+{
+    for e in 0..len {
+        out[from + e] = out[from + e] ^ field::raised(powers, logs, k, u[first + e]);
+    }
+}
+
+// c times len bytes, from `first` on, added to those of out from `from` on.
+pub fn add_multiple(
+    powers: &[u8; 510],
+    logs: &[u8; 256],
+    c: u8,
+    u: &[u8],
+    first: usize,
+    out: &mut [u8],
+    from: usize,
+    len: usize,
+)
+    requires { ⌜ PowerTable (now powers) × LogTable (now logs) × (first + len ≤ length (now u)) × (from + len ≤ length (now out)) ⌝ }
+    ensures { λ _. ⌜ now (out .exit) ≡ added len from (λ e. times c (at (now (u .entry)) (first + e))) (now (out .entry)) ⌝ }
+{
+    if c != 0 {
+        add_raised(powers, logs, field::log(logs, c), u, first, out, from, len);
+    }
+}
+
+// The combination of `count` vectors of len bytes, which stand one after another in u from `start` on, added to the bytes of out from
+// `from` on. The i-th coefficient stands in c at `first` plus i steps.
+pub fn combine(
+    powers: &[u8; 510],
+    logs: &[u8; 256],
+    count: usize,
+    c: &[u8],
+    first: usize,
+    step: usize,
+    u: &[u8],
+    start: usize,
+    out: &mut [u8],
+    from: usize,
+    len: usize,
+)
+    requires { ⌜ PowerTable (now powers) × LogTable (now logs) × (0 < count → first + (count - 1) * step < length (now c)) × (start + count * len ≤ length (now u)) × (from + len ≤ length (now out)) ⌝ }
+    ensures { λ _. ⌜ now (out .exit) ≡ added len from (mixed count (λ i. at (now (c .entry)) (first + i * step)) (λ i e. at (now (u .entry)) (start + i * len + e))) (now (out .entry)) ⌝ }
+{
+    for i in 0..count {
+        add_multiple(
+            powers,
+            logs,
+            c[first + i * step],
+            u,
+            start + i * len,
+            out,
+            from,
+            len,
+        );
+    }
+}

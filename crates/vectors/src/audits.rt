@@ -1,0 +1,182 @@
+// Challenge and Verdict: the life in numbers, and calls with any lengths and numbers.
+use crate::key_vector::ID;
+use crate::masks::RESPONSE;
+use crate::report;
+use crate::rfc8439::counting_key;
+
+// To node 2: places 0 and 1, coefficients 07 and b5; and the rows that the table has for it.
+const CHALLENGE: [u8; 5] = [0x14, 0x40, 0x1c, 0xda, 0x80];
+
+const ROWS: [u8; 4] = [0xf3, 0xfe, 0x72, 0xfb];
+
+fn challenge_worked() {
+    let mut message = [0u8; 5];
+    let answer = answer::number(audit::challenge(2, &[0, 1], &[0x07, 0xb5], &mut message));
+    report::number(b"Challenge's answer", 0, answer as u64);
+    report::bytes(b"Challenge to node 2, places 0 and 1", &CHALLENGE, &message);
+}
+
+fn challenge_of_one() {
+    let mut message = [0xffu8; 3];
+    let answer = answer::number(audit::challenge(2, &[0], &[1], &mut message));
+    report::number(b"Challenge's answer, one item", 0, answer as u64);
+    report::bytes(
+        b"Challenge to node 2, place 0, coefficient 01",
+        &[0x14, 0x20, 0x04],
+        &message,
+    );
+}
+
+// A refused Challenge with lists and a message of these lengths, each below 65; the first two places are given, the others are 7.
+fn challenge(
+    label: &[u8],
+    expected: u64,
+    node: usize,
+    places: usize,
+    first: u8,
+    second: u8,
+    coefficients: usize,
+    message: usize,
+) {
+    let ones = [1u8; 64];
+    let mut named = [7u8; 64];
+    named[0] = first;
+    named[1] = second;
+    let mut lent = [0xa5u8; 64];
+    let answer = answer::number(audit::challenge(
+        node,
+        &named[0..places % 65],
+        &ones[0..coefficients % 65],
+        &mut lent[0..message % 65],
+    ));
+    report::number(label, expected, answer as u64);
+    report::kept(lent);
+}
+
+// 2, unequal lists; 9, fields out of rule; 2, output length: in that order.
+fn challenge_refused() {
+    challenge(b"Challenge, lists of 2 and 1", 2, 9, 2, 0, 1, 1, 5);
+    challenge(b"Challenge, node 6", 9, 6, 2, 0, 1, 2, 0);
+    challenge(
+        b"Challenge, node 2^64-1",
+        9,
+        18446744073709551615,
+        2,
+        0,
+        1,
+        2,
+        5,
+    );
+    challenge(b"Challenge, no item", 9, 2, 0, 0, 1, 0, 2);
+    challenge(b"Challenge, 9 items", 9, 2, 9, 0, 1, 9, 14);
+    challenge(b"Challenge, place 8", 9, 2, 2, 7, 8, 2, 5);
+    challenge(b"Challenge, equal places", 9, 2, 2, 1, 1, 2, 5);
+    challenge(b"Challenge, falling places", 9, 2, 2, 1, 0, 2, 5);
+    challenge(b"Challenge, output one short", 2, 2, 3, 0, 1, 3, 5);
+    challenge(b"Challenge, output one long", 2, 2, 1, 0, 1, 1, 4);
+    challenge(b"Challenge, output of 0 bytes", 2, 2, 1, 0, 1, 1, 0);
+}
+
+// Verdict with the life's key, id and sizes n=3, m=2, M=2, N=3, on its response with byte `at` made b.
+fn judged(label: &[u8], expected: u64, rows: &[u8], at: usize, b: u8) {
+    let mut response = RESPONSE;
+    response[at % 17] = b;
+    let judgement = audit::verdict(
+        &counting_key(0),
+        &ID,
+        3,
+        2,
+        2,
+        3,
+        rows,
+        &CHALLENGE,
+        &response,
+    );
+    report::number(label, expected, audit::number(judgement) as u64);
+}
+
+fn verdicts() {
+    judged(b"Verdict: accepted", 0, &ROWS, 0, 0x24);
+    judged(b"Verdict, a masked byte changed", 255, &ROWS, 1, 0x2b);
+    judged(b"Verdict, the mask sum changed", 255, &ROWS, 13, 0x62);
+    judged(b"Verdict, the seed alone changed", 0, &ROWS, 5, 0);
+    judged(
+        b"Verdict, rows exchanged",
+        255,
+        &[0x72, 0xfb, 0xf3, 0xfe],
+        0,
+        0x24,
+    );
+    judged(b"Verdict, rows of 3 bytes", 2, &[0xf3, 0xfe, 0x72], 0, 0x24);
+    judged(b"Verdict, response of node 1", 9, &ROWS, 0, 0x22);
+}
+
+// Sizes that are refused, or that the challenged node is not among.
+fn sized(label: &[u8], expected: u64, n: usize, m: usize, places: usize, nodes: usize) {
+    let judgement = audit::verdict(
+        &counting_key(0),
+        &ID,
+        n,
+        m,
+        places,
+        nodes,
+        &ROWS,
+        &CHALLENGE,
+        &RESPONSE,
+    );
+    report::number(label, expected, audit::number(judgement) as u64);
+}
+
+fn sizes() {
+    sized(b"Verdict, n=2", 1, 2, 2, 2, 3);
+    sized(b"Verdict, m=17", 1, 3, 17, 2, 3);
+    sized(b"Verdict, M=2^63", 1, 3, 2, 9223372036854775808, 3);
+    sized(b"Verdict, N=0", 1, 3, 2, 2, 0);
+    sized(b"Verdict, N=2", 4, 3, 2, 2, 2);
+    sized(b"Verdict, n=4", 2, 4, 2, 2, 3);
+}
+
+fn asked(label: &[u8], expected: u64, message: &[u8]) {
+    let judgement = audit::verdict(&counting_key(0), &ID, 3, 2, 2, 3, &ROWS, message, &RESPONSE);
+    report::number(label, expected, audit::number(judgement) as u64);
+}
+
+fn messages() {
+    asked(b"Verdict, no challenge", 9, &[]);
+    asked(
+        b"Verdict, challenge of kind 2",
+        9,
+        &[0x24, 0x40, 0x1c, 0xda, 0x80],
+    );
+    asked(
+        b"Verdict, challenge to node 6",
+        9,
+        &[0x1c, 0x40, 0x1c, 0xda, 0x80],
+    );
+    asked(b"Verdict, challenge of no item", 9, &[0x14, 0x00]);
+    asked(
+        b"Verdict, challenge with equal places",
+        9,
+        &[0x14, 0x40, 0x1c, 0x1a, 0x80],
+    );
+    asked(
+        b"Verdict, challenge with a last bit set",
+        9,
+        &[0x14, 0x40, 0x1c, 0xda, 0x81],
+    );
+    asked(
+        b"Verdict, challenge one byte long",
+        9,
+        &[0x14, 0x40, 0x1c, 0xda, 0x80, 0],
+    );
+    asked(b"Verdict, challenge to place 2", 4, &[0x14, 0x28, 0x04]);
+}
+
+pub fn run() {
+    challenge_worked();
+    challenge_of_one();
+    challenge_refused();
+    verdicts();
+    sizes();
+    messages();
+}
