@@ -21,7 +21,7 @@ use Rattle.archive.proofs.ReadLaws.{howMany-same}
 
 -- ---- counting
 
-howMany-most : (n : ℕ) (f : ℕ → Bool) → howMany n f ≤ n
+pub howMany-most : (n : ℕ) (f : ℕ → Bool) → howMany n f ≤ n
 unfolding howMany
 howMany-most zero f = omega arith
 howMany-most (suc n) f = omega (arith, howMany-most n f, bit-low (f n))

@@ -21,10 +21,10 @@ use Rattle.tag.specs.declared.Sizes.{Sizes}
 use Rattle.archive.specs.Layout.{placeCount, recordLength, archiveLength, recordStart, sizeFields, archiveOf, sizesOf, idOf, markAt, byteIn, badFor, badArchive}
 use Rattle.tag.proofs.SizeLaws.{Ranged, not-sizes-outside}
 
-four : {z z′ : Sizes} → z .n ≡ z′ .n → z .m ≡ z′ .m → z .places ≡ z′ .places → z .nodes ≡ z′ .nodes → z ≡ z′
+pub four : {z z′ : Sizes} → z .n ≡ z′ .n → z .m ≡ z′ .m → z .places ≡ z′ .places → z .nodes ≡ z′ .nodes → z ≡ z′
 four a b c d i = record { n = a i; m = b i; places = c i; nodes = d i }
 
-sizes-length : (z : Sizes) → length (pack (sizeFields z)) ≡ 4
+pub sizes-length : (z : Sizes) → length (pack (sizeFields z)) ≡ 4
 unfolding widths
 sizes-length z = pack-length (sizeFields z)
 

@@ -3,8 +3,10 @@ use Prim.Native.Nat.{ℕ, zero, suc, _+_, _-_, _*_, _/_, _%_, _^_, _<_, _≤_}
 use mathlib.Core.Path.{_≡_, refl, sym, ap, _∙_}
 use mathlib.Core.Bool.{Bool, true, false}
 use native.Mathlib.Nat.{mod-lt, div-div-eq-div-mul, pow-suc, pow-succ', div-eq-of-lt}
+use native.Mathlib.Numerals.{add-one}
 use native.Mathlib.Omega.{arith}
 use lib.Dec.{eqb}
+use lib.Pow.{pow-mono}
 use Rattle.bits.specs.Fields.{bit, bitOf, number}
 
 -- one bit as a number
@@ -48,6 +50,18 @@ pub number-low : (f : ℕ → Bool) (w : ℕ) → number f w < 2 ^ w
 unfolding number
 number-low f zero = omega arith
 number-low f (suc w) = omega (arith, number-low f w, bit-low (f w), pow-suc 2 w)
+
+-- no bit, one bit more, few bits
+pub number-none : (f : ℕ → Bool) → 0 ≡ number f 0
+unfolding number
+number-none f = refl
+
+pub number-more : (f : ℕ → Bool) (w : ℕ) {x y : ℕ} → x ≡ number f w → y ≡ bit (f w) → x * 2 + y ≡ number f (w + 1)
+unfolding number
+number-more f w e h = rw (add-one, e, h)
+
+pub number-small : (f : ℕ → Bool) (w : ℕ) {x : ℕ} → x ≡ number f w → w ≤ 16 → x < 65536
+number-small f w e h = omega (arith, number-low f w, pow-mono {i = w} {j = 16} h)
 
 -- two numbers that differ in bit i at most, with e bits after it
 pub number-other : (f g : ℕ → Bool) (i e w : ℕ) → w ≡ suc (i + e)

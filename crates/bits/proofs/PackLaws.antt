@@ -1,24 +1,27 @@
 -- Laws of `packed`, `bitAt`, `fieldAt` and `pack`. Assumes nothing.
 use Prim.Native.Nat.{ℕ, _+_, _-_, _*_, _/_, _%_, _^_, _<_, _≤_}
 use mathlib.Core.Path.{_≡_, refl, sym, ap, _∙_}
-use mathlib.Core.Bool.{Bool, false}
+use mathlib.Core.Bool.{Bool, true, false}
 use mathlib.Core.List.{List, [], _∷_, _++_}
 use mathlib.Core.Logic.{⊎-elim}
 use native.Mathlib.Nat.{zero-div}
-use native.Mathlib.Numerals.{add-one}
 use native.Mathlib.Omega.{arith}
+use lib.Dec.{ltb}
 use lib.ListN.{length, List·getD-eq-default}
-use lib.Pow.{pow-mono}
 use borrow.Author.Tests.{lt-ltb, le-ltb}
-use Rattle.lists.specs.Lists.{at}
+use Rattle.lists.specs.Lists.{pick, at}
 use Rattle.lists.proofs.TabLaws.{order, length-tab, tab-at, is-tab, tab-same}
-use Rattle.bits.specs.Fields.{Field, bit, bitOf, bitsOf, widths, number, packed, bytesFor, pack, bitAt, fieldAt}
-use Rattle.bits.proofs.NumberLaws.{bit-low, bit-odd, place-bit, number-same, number-low, number-back}
+use Rattle.bits.specs.Fields.{Field, _wide_, bit, bitOf, bitsOf, widths, number, packed, bytesFor, pack, bitAt, fieldAt}
+use Rattle.bits.proofs.NumberLaws.{bit-low, bit-odd, place-bit, number-same, number-low, number-none, number-more, number-small, number-back}
 
 -- bytes with given bits
 pub packed-length : (len : ℕ) (bits : ℕ → Bool) → length (packed len bits) ≡ len
 unfolding packed
 packed-length len bits = length-tab len _
+
+pub packed-at : (len : ℕ) (bits : ℕ → Bool) (j : ℕ) → j < len → at (packed len bits) j ≡ number (λ i. bits (8 * j + i)) 8
+unfolding packed
+packed-at len bits j h = tab-at len _ j h
 
 pub packed-bit : (len : ℕ) (bits : ℕ → Bool) (k : ℕ) → k < 8 * len → bitAt (packed len bits) k ≡ bits k
 unfolding bitAt packed
@@ -65,19 +68,20 @@ unfolding fieldAt
 field-back s from w v l h = number-same (λ i. bitAt s (from + i)) (bitOf w v) w h ∙ number-back w v l
 
 pub field-none : (s : List ℕ) (from : ℕ) → fieldAt s from 0 ≡ 0
-unfolding fieldAt number
-field-none s from = refl
+unfolding fieldAt
+field-none s from = sym (number-none _)
 
 pub field-more : (s : List ℕ) (from w x y : ℕ) → x ≡ fieldAt s from w → y ≡ bit (bitAt s (from + w)) → x * 2 + y ≡ fieldAt s from (w + 1)
-unfolding fieldAt number
-field-more s from w x y e h = rw (add-one, e, h)
+unfolding fieldAt
+field-more s from w x y e h = number-more (λ i. bitAt s (from + i)) w e h
 
 pub field-low : (s : List ℕ) (from w : ℕ) → fieldAt s from w < 2 ^ w
 unfolding fieldAt
 field-low s from w = number-low (λ i. bitAt s (from + i)) w
 
 pub field-small : (s : List ℕ) (from w x : ℕ) → x ≡ fieldAt s from w → w ≤ 16 → x < 65536
-field-small s from w x e h = omega (arith, field-low s from w, pow-mono {i = w} {j = 16} h)
+unfolding fieldAt
+field-small s from w x e h = number-small (λ i. bitAt s (from + i)) w e h
 
 -- fields in a row: the bits of the first, of the earlier ones, of the later ones, and past the last
 pub bits-here : (f : Field) (fs : List Field) (i : ℕ) → i < f .width → bitsOf (f ∷ fs) i ≡ bitOf (f .width) (f .value) i
@@ -110,6 +114,32 @@ pub bits-past : (fs : List Field) (k : ℕ) → widths fs ≤ k → bitsOf fs k 
 unfolding widths bitsOf
 bits-past [] k h = refl
 bits-past (f ∷ fs) k h = rw (le-ltb k (f .width) (omega arith)) (bits-past fs (k - f .width) (omega arith))
+
+-- zero bits behind them change nothing
+zero-bits : (w k : ℕ) → bitsOf ((w wide 0) ∷ []) k ≡ false
+unfolding bitsOf bitOf
+zero-bits w k = rw zero-div (go (ltb k w))
+  where
+    go : (t : Bool) → pick t false false ≡ false
+    go true = refl
+    go false = refl
+
+pub bits-zero : (fs : List Field) (w k : ℕ) → bitsOf fs k ≡ bitsOf (fs ++ ((w wide 0) ∷ [])) k
+bits-zero fs w k =
+    ⊎-elim
+    (λ (l : k < widths fs). sym (bits-front fs ((w wide 0) ∷ []) k l))
+    (λ (l : widths fs ≤ k).
+    let q : k ≡ widths fs + (k - widths fs) = omega arith in
+    bits-past fs k l ∙ sym (ap (bitsOf (fs ++ ((w wide 0) ∷ []))) q ∙ bits-rest fs ((w wide 0) ∷ []) (k - widths fs) ∙ zero-bits w (k - widths fs)))
+    (order k (widths fs))
+
+-- a byte of zero bits, and one past the last field
+pub packed-zero : (len : ℕ) (bits : ℕ → Bool) (j : ℕ) → j < len → ((i : ℕ) → i < 8 → bits (8 * j + i) ≡ false) → at (packed len bits) j ≡ 0
+unfolding number
+packed-zero len bits j h none = packed-at len bits j h ∙ number-same (λ i. bits (8 * j + i)) (λ i. false) 8 none
+
+pub packed-past : (len : ℕ) (fs : List Field) (j : ℕ) → j < len → widths fs ≤ 8 * j → at (packed len (bitsOf fs)) j ≡ 0
+packed-past len fs j h past = packed-zero len (bitsOf fs) j h (λ i l. bits-past fs (8 * j + i) (omega arith))
 
 widths-within : (before : List Field) (f : Field) (rest : List Field) → widths before + f .width ≤ widths (before ++ (f ∷ rest))
 unfolding widths

@@ -1,10 +1,11 @@
 -- Laws of sums over the indices below a number. Assumes nothing.
 use mathlib.Core.Path.{_≡_, refl, sym, ap, ap₂, _∙_}
 use mathlib.Core.Logic.{⊎-elim, _≢_}
-use Prim.Native.Nat.{ℕ, zero, suc, _+_, _<_, _^_}
+use Prim.Native.Nat.{ℕ, zero, suc, _+_, _*_, _/_, _%_, _<_, _^_}
 use native.Mathlib.Nat.{eq-or-lt-of-le, le-of-suc-le-suc, not-suc-le-zero, add-zero, add-suc}
 use native.Mathlib.Numerals.{add-one}
 use native.Mathlib.Omega.{arith}
+use lib.Arith.{digits-div, digits-mod}
 use lib.Pow.{pow-pos}
 use lib.Bits.{bitXor, xor-self, xor-zero-r, xor-lt}
 use Rattle.field.specs.Field.{plus, sum}
@@ -72,6 +73,16 @@ pub sum-split : (m n : ℕ) (f : ℕ → ℕ) → sum (m + n) f ≡ plus (sum m 
 unfolding sum
 sum-split m zero f = rw (add-zero, xor-zero-r)
 sum-split m (suc n) f = rw (add-suc, sum-split m n f) (xor-assoc (sum m f) (sum n (λ i. f (m + i))) (f (m + n)))
+
+-- a sum over all pairs, row after row
+pub sum-rows : (p q : ℕ) (f : ℕ → ℕ → ℕ) → 0 < q → sum (p * q) (λ t. f (t / q) (t % q)) ≡ sum p (λ i. sum q (f i))
+unfolding sum
+sum-rows zero q f low = let z : 0 * q ≡ 0 = omega arith in rw z
+sum-rows (suc p) q f low =
+    let z : suc p * q ≡ p * q + q = omega arith in
+    rw z
+    (sum-split (p * q) q _
+    ∙ ap₂ bitXor (sum-rows p q f low) (sum-same q _ (f p) (λ j h. ap₂ f (digits-div p h) (digits-mod p h))))
 
 pub sum-lt : (k n : ℕ) (f : ℕ → ℕ) → ((i : ℕ) → i < n → f i < 2 ^ k) → sum n f < 2 ^ k
 unfolding sum

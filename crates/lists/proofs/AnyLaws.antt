@@ -1,8 +1,8 @@
 -- Laws of `anyOf` and `anyBelow`. Assumes nothing.
-use Prim.Native.Nat.{ℕ, zero, suc, _<_}
+use Prim.Native.Nat.{ℕ, zero, suc, _+_, _<_}
 use mathlib.Core.Path.{_≡_, refl, sym}
-use mathlib.Core.Bool.{Bool, true, false, _||_}
-use mathlib.Core.List.{List, [], _∷_}
+use mathlib.Core.Bool.{Bool, true, false, _&&_, _||_}
+use mathlib.Core.List.{List, [], _∷_, _++_}
 use native.Mathlib.Omega.{arith}
 use native.Mathlib.Decide.{ℕ-discrete}
 use Rattle.lists.specs.Lists.{pick, anyOf, anyBelow}
@@ -58,6 +58,10 @@ unfolding anyBelow
 any-none zero f h = refl
 any-none (suc n) f h = rw (h n (omega arith)) (any-none n f (λ i l. h i (omega arith)))
 
+-- none before k holds, nor does k
+pub none-more : (f : ℕ → Bool) (k : ℕ) → ((i : ℕ) → i < k → f i ≡ false) → f k ≡ false → (i : ℕ) → i < k + 1 → f i ≡ false
+none-more f k h e i l = elim (ℕ-discrete i k) [ yes q ↦ rw q e | no q ↦ h i (omega arith) ]
+
 -- one holds
 pub any-some : (n : ℕ) (f : ℕ → Bool) (i : ℕ) → i < n → f i ≡ true → anyBelow n f ≡ true
 unfolding anyBelow
@@ -68,6 +72,18 @@ any-some (suc n) f i h e =
     go : (t : Bool) → pick t true true ≡ true
     go true = refl
     go false = refl
+
+-- one list of tests behind another
+pub any-append : (ts us : List Bool) → anyOf (ts ++ us) ≡ anyOf (anyOf ts ∷ us)
+unfolding anyOf
+any-append [] us = refl
+any-append (true ∷ ts) us = refl
+any-append (false ∷ ts) us = any-append ts us
+
+-- both hold, as code writes it
+pub both-pick : (a b : Bool) → (a && b) ≡ pick a b false
+both-pick true b = refl
+both-pick false b = refl
 
 pub or-false : (a b : Bool) → (a || b) ≡ false → (a ≡ false) × (b ≡ false)
 or-false true b e = let q : _≡_ {A = ℕ} 0 1 = cc in absurd (omega arith)

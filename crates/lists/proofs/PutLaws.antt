@@ -1,10 +1,10 @@
 -- Laws of stores in a row (`put`), rows of stores (`grid`) and rows of values (`flat`). Assumes nothing.
-use Prim.Native.Nat.{ℕ, zero, suc, _+_, _-_, _*_, _<_, _≤_}
+use Prim.Native.Nat.{ℕ, zero, suc, _+_, _-_, _*_, _/_, _%_, _<_, _≤_}
 use mathlib.Core.Path.{_≡_, refl, sym, ap, _∙_}
 use mathlib.Core.List.{List, _++_}
 use mathlib.Core.Logic.{⊎-elim}
 use native.Mathlib.Omega.{arith}
-use native.Mathlib.Nat.{eq-or-lt-of-le, mul-le-mul-right, add-zero, add-suc}
+use native.Mathlib.Nat.{eq-or-lt-of-le, mul-le-mul-right, add-zero, add-suc, div-add-mod', div-lt-iff-lt-mul, mod-lt}
 use native.Mathlib.Numerals.{add-one}
 use lib.ListN.{length, set, length-set, length-append, List·getD-append}
 use lib.Seq.{getD-set-same, getD-set-other, getD-append-add, ext-getD}
@@ -58,6 +58,22 @@ pub put-same : (n from : ℕ) (f g : ℕ → ℕ) (d : List ℕ) → ((i : ℕ) 
 unfolding put
 put-same zero from f g d h = refl
 put-same (suc n) from f g d h = rw (put-same n from f g d (λ i l. h i (omega arith)), h n (omega arith))
+
+-- a list with these values in those places, and elsewhere as it was
+pub is-put : (n from : ℕ) (f : ℕ → ℕ) (d s : List ℕ) → length s ≡ length d → from + n ≤ length d → ((i : ℕ) → i < n → at s (from + i) ≡ f i)
+    → ((k : ℕ) → k < from → at s k ≡ at d k) → ((k : ℕ) → from + n ≤ k → at s k ≡ at d k) → s ≡ put n from f d
+is-put n from f d s e l within below above =
+    ext-getD 0 s (put n from f d) (e ∙ sym (length-put n from f d)) (λ (k : ℕ) h.
+    ⊎-elim
+    (λ (a : k < from). below k a ∙ sym (put-below n from f d k a))
+    (λ (a : from ≤ k).
+    ⊎-elim
+    (λ (b : k < from + n).
+    let q : k ≡ from + (k - from) = omega arith in
+    rw q (within (k - from) (omega arith) ∙ sym (put-at n from f d (k - from) (omega arith) l)))
+    (λ (b : from + n ≤ k). above k b ∙ sym (put-above n from f d k b))
+    (order k (from + n)))
+    (order k from))
 
 -- other values in the same places
 pub put-again : (n from : ℕ) (f g : ℕ → ℕ) (d : List ℕ) → from + n ≤ length d → put n from f (put n from g d) ≡ put n from f d
@@ -118,6 +134,31 @@ grid-at (suc n) m from f d t j h hj r =
     ∙ grid-at n m from f d t j l hj (omega arith))
     (eq-or-lt-of-le {n = t} {m = n} (omega arith))
 
+-- no row; one more
+pub grid-none : (m from : ℕ) (f : ℕ → ℕ → ℕ) (d : List ℕ) → d ≡ grid 0 m from f d
+unfolding grid
+grid-none m from f d = refl
+
+pub grid-more : (n m from : ℕ) (f : ℕ → ℕ → ℕ) (d : List ℕ) {s : List ℕ} {place : ℕ} → s ≡ grid n m from f d → place ≡ from + n * m
+    → put m place (f n) s ≡ grid (n + 1) m from f d
+unfolding grid
+grid-more n m from f d e h = rw (add-one, e, h)
+
+-- equal values
+pub grid-same : (n m from : ℕ) (f g : ℕ → ℕ → ℕ) (d : List ℕ) → ((t j : ℕ) → t < n → j < m → f t j ≡ g t j) → grid n m from f d ≡ grid n m from g d
+unfolding grid
+grid-same zero m from f g d h = refl
+grid-same (suc n) m from f g d h =
+    rw (grid-same n m from f g d (λ t j l hj. h t j (omega arith) hj)) (put-same m (from + n * m) (f n) (g n) _ (λ j hj. h n j (omega arith) hj))
+
+-- rows of stores are stores in a row
+pub grid-put : (n m from : ℕ) (g : ℕ → ℕ) (d : List ℕ) → grid n m from (λ t j. g (t * m + j)) d ≡ put (n * m) from g d
+unfolding grid put
+grid-put zero m from g d = let q : 0 * m ≡ 0 = omega arith in rw q
+grid-put (suc n) m from g d =
+    let q : suc n * m ≡ n * m + m = omega arith in
+    rw (q, grid-put n m from g d) (put-put (n * m) m from g d)
+
 -- past the first list
 pub skip : (a b : List ℕ) (n i : ℕ) → length a ≡ n → at (a ++ b) (n + i) ≡ at b i
 skip a b n i e = rw (← e) (getD-append-add a b i 0)
@@ -143,3 +184,19 @@ unfolding flat
 flat-same zero m f g h = refl
 flat-same (suc n) m f g h =
     rw (flat-same n m f g (λ k p l hp. h k p (omega arith) hp), tab-same m (f n) (g n) (λ p hp. h n p (omega arith) hp))
+
+-- rows of stores in a whole list
+pub grid-all : (n m : ℕ) (f : ℕ → ℕ → ℕ) (d : List ℕ) → length d ≡ n * m → grid n m 0 f d ≡ flat n m f
+grid-all n m f d e =
+    ext-getD 0 _ _ (length-grid n m 0 f d ∙ e ∙ sym (length-flat n m f)) (λ (i : ℕ) h.
+    let l : i < n * m = omega (arith, length-grid n m 0 f d) in
+    let low : 0 < m = some m i l in
+    let r : i / m < n = div-lt-iff-lt-mul {k = m} low .1 l in
+    let q : i ≡ i / m * m + i % m = sym (div-add-mod' i m) in
+    let q0 : i ≡ 0 + i / m * m + i % m = omega arith in
+    ap (at (grid n m 0 f d)) q0 ∙ grid-at n m 0 f d (i / m) (i % m) r (mod-lt i low) (omega arith)
+    ∙ sym (ap (at (flat n m f)) q ∙ flat-at n m f (i / m) (i % m) r (mod-lt i low)))
+  where
+    some : (m i : ℕ) → i < n * m → 0 < m
+    some zero i l = absurd (omega arith)
+    some (suc m) i l = omega arith

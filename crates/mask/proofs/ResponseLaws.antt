@@ -7,7 +7,7 @@ use native.Mathlib.Omega.{arith}
 use lib.Bits.{xor-zero-r}
 use lib.Dec.{T, ltb, eqb, eqb→eq}
 use lib.ListN.{length, take, drop, length-append, List·getD-append}
-use lib.Seq.{take-at, drop-at}
+use lib.Seq.{take-at, drop-at, ext-getD}
 use borrow.Author.Tests.{lt-ltb, le-ltb}
 use Rattle.lists.specs.Lists.{pick, at, tab}
 use Rattle.lists.proofs.TabLaws.{order, length-tab, tab-at, tab-same}
@@ -66,6 +66,31 @@ module _ (n node : ℕ) (block : ℕ → ℕ) (tag : ℕ) (hidden : ℕ → ℕ)
       ap (at r) {x = n + 10 + i} {y = 1 + ((n - 2) + (11 + i))} (omega arith)
       ∙ skip (responseHead node) (masked ++ (seed ++ clear)) 1 ((n - 2) + (11 + i)) (head-length node)
       ∙ skip masked (seed ++ clear) (n - 2) (11 + i) (length-tab (n - 2) _) ∙ skip seed clear 11 i es
+
+  response-seed-at : (i : ℕ) → i < 11 → at r (n - 1 + i) ≡ at seed i
+  unfolding responseBytes
+  response-seed-at i h =
+      ap (at r) {x = n - 1 + i} {y = 1 + ((n - 2) + i)} (omega arith)
+      ∙ skip (responseHead node) (masked ++ (seed ++ clear)) 1 ((n - 2) + i) (head-length node)
+      ∙ skip masked (seed ++ clear) (n - 2) i (length-tab (n - 2) _) ∙ List·getD-append seed clear 0 i (omega arith)
+
+  -- bytes that are these, part by part, are the response
+  pub is-response : (s : List ℕ) → length s ≡ responseLength n → at s 0 ≡ at (responseHead node) 0 → ((e : ℕ) → e < n - 2 → at s (1 + e) ≡ plus (block e) (hidden e))
+      → ((i : ℕ) → i < 11 → at s (n - 1 + i) ≡ at seed i) → ((i : ℕ) → i < 4 → at s (n + 10 + i) ≡ at clear i) → s ≡ r
+  is-response s l first middle seeded last =
+      ext-getD 0 s r (l ∙ sym response-length) (λ (k : ℕ) h.
+      ⊎-elim
+      (λ (a : k < 1). let q : k ≡ 0 = omega arith in rw q (first ∙ sym response-first))
+      (λ (a : 1 ≤ k).
+      ⊎-elim
+      (λ (b : k < n - 1). let q : k ≡ 1 + (k - 1) = omega arith in rw q (middle (k - 1) (omega arith) ∙ sym (response-masked (k - 1) (omega arith))))
+      (λ (b : n - 1 ≤ k).
+      ⊎-elim
+      (λ (d : k < n + 10). let q : k ≡ n - 1 + (k - (n - 1)) = omega arith in rw q (seeded (k - (n - 1)) (omega arith) ∙ sym (response-seed-at (k - (n - 1)) (omega arith))))
+      (λ (d : n + 10 ≤ k). let q : k ≡ n + 10 + (k - (n + 10)) = omega arith in rw q (last (k - (n + 10)) (omega arith) ∙ sym (response-clear (k - (n + 10)))))
+      (order k (n + 10)))
+      (order k (n - 1)))
+      (order k 1))
 
   pub response-sum : sumIn n r ≡ total
   response-sum = ap (at r) {x = n + 10} {y = n + 10 + 0} (omega arith) ∙ response-clear 0

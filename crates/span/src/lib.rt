@@ -1,5 +1,6 @@
 // The archive's operations for C and Rust: numbers and byte slices in, document 01's number out (include/span_archive.h).
 ghost use mathlib.Core.Path.{_≡_};
+ghost use lib.ListN.{length};
 ghost use Rattle.answer.specs.Numbers.{outcomeNumber};
 ghost use Rattle.answer.specs.Refusals.{afterwards};
 ghost use Rattle.field.specs.Field.{times};
@@ -9,6 +10,10 @@ ghost use Rattle.tag.specs.KeyVector.{vectorAnswer, vectorOut};
 ghost use Rattle.mask.specs.Operations.{setupAnswer, setupOut, unmaskAnswer, unmaskOut};
 ghost use Rattle.audit.specs.Challenge.{challengeFor, challengeAnswer, challengeOut};
 ghost use Rattle.audit.specs.Verdict.{judgementNumber, verdictOf};
+ghost use Rattle.archive.specs.Layout.{openAnswer, openOut};
+ghost use Rattle.archive.specs.Calls as Calls;
+ghost use Rattle.archive.specs.Calls.{archiveAnswer, archiveAfter, scratchAfter};
+ghost use Rattle.archive.specs.Prove.{proveAnswer, proveOut};
 use field::Inverted;
 
 #[no_mangle]
@@ -104,4 +109,75 @@ pub extern "C" fn span_verdict(
     ensures { λ r. ⌜ r ≡ judgementNumber (verdictOf (now (key .entry)) (now (id .entry)) (record { n = n; m = m; places = places; nodes = nodes }) (now (rows .entry)) (now (message .entry)) (now (response .entry))) ⌝ }
 {
     audit::number(audit::verdict(key, id, n, m, places, nodes, rows, message, response))
+}
+
+#[no_mangle]
+pub extern "C" fn span_open(
+    n: usize,
+    m: usize,
+    places: usize,
+    nodes: usize,
+    id: &[u8],
+    archive: &mut [u8],
+) -> u8
+    ensures number { λ r. ⌜ r ≡ outcomeNumber (openAnswer (record { n = n; m = m; places = places; nodes = nodes }) (now (id .entry)) (now (archive .entry))) ⌝ }
+    ensures output { λ _. ⌜ now (archive .exit) ≡ openOut (record { n = n; m = m; places = places; nodes = nodes }) (now (id .entry)) (now (archive .entry)) ⌝ }
+{
+    answer::number(archive::open(n, m, places, nodes, id, archive))
+}
+
+#[no_mangle]
+pub extern "C" fn span_encode(
+    archive: &mut [u8],
+    node: usize,
+    place: usize,
+    file: &[u8],
+    padding: &[u8],
+    tag_key: &[u8],
+    row: &[u8],
+) -> u8
+    ensures number { λ r. ⌜ r ≡ outcomeNumber (archiveAnswer (now (archive .entry)) (Calls.encode node place (now (file .entry)) (now (padding .entry)) (now («tag_key» .entry)) (now (row .entry)))) ⌝ }
+    ensures output { λ _. ⌜ now (archive .exit) ≡ archiveAfter (now (archive .entry)) (Calls.encode node place (now (file .entry)) (now (padding .entry)) (now («tag_key» .entry)) (now (row .entry))) ⌝ }
+{
+    answer::number(archive::encode(archive, node, place, file, padding, tag_key, row))
+}
+
+#[no_mangle]
+pub extern "C" fn span_lose(archive: &mut [u8], node: usize) -> u8
+    ensures number { λ r. ⌜ r ≡ outcomeNumber (archiveAnswer (now (archive .entry)) (Calls.lose node)) ⌝ }
+    ensures output { λ _. ⌜ now (archive .exit) ≡ archiveAfter (now (archive .entry)) (Calls.lose node) ⌝ }
+{
+    answer::number(archive::lose(archive, node))
+}
+
+#[no_mangle]
+pub extern "C" fn span_prove(
+    archive: &[u8],
+    mask_key: &[u8],
+    auxiliary: &[u8],
+    seed: &[u8],
+    message: &[u8],
+    response: &mut [u8],
+) -> u8
+    ensures number { λ r. ⌜ r ≡ outcomeNumber (proveAnswer (now (archive .entry)) (now («mask_key» .entry)) (now (auxiliary .entry)) (now (seed .entry)) (now (message .entry)) (now (response .entry))) ⌝ }
+    ensures output { λ _. ⌜ now (response .exit) ≡ proveOut (now (archive .entry)) (now («mask_key» .entry)) (now (auxiliary .entry)) (now (seed .entry)) (now (message .entry)) (now (response .entry)) ⌝ }
+{
+    answer::number(archive::prove(archive, mask_key, auxiliary, seed, message, response))
+}
+
+#[no_mangle]
+pub extern "C" fn span_repair(
+    archive: &mut [u8],
+    target: usize,
+    helpers: &[u8],
+    q: usize,
+    gammas: &[u8],
+    thetas: &[u8],
+    scratch: &mut [u8],
+) -> u8
+    ensures number { λ r. ⌜ r ≡ outcomeNumber (archiveAnswer (now (archive .entry)) (Calls.repair target (now (helpers .entry)) q (now (gammas .entry)) (now (thetas .entry)) (length (now (scratch .entry))))) ⌝ }
+    ensures output { λ _. ⌜ now (archive .exit) ≡ archiveAfter (now (archive .entry)) (Calls.repair target (now (helpers .entry)) q (now (gammas .entry)) (now (thetas .entry)) (length (now (scratch .entry)))) ⌝ }
+    ensures blocks { λ _. ⌜ now (scratch .exit) ≡ scratchAfter (now (archive .entry)) target (now (helpers .entry)) q (now (gammas .entry)) (now (thetas .entry)) (now (scratch .entry)) ⌝ }
+{
+    answer::number(archive::repair(archive, target, helpers, q, gammas, thetas, scratch))
 }

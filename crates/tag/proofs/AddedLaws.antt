@@ -4,11 +4,11 @@ use mathlib.Core.Path.{_≡_, refl, sym, ap, _∙_}
 use mathlib.Core.List.{List}
 use native.Mathlib.Nat.{mul-le-mul-right}
 use native.Mathlib.Omega.{arith}
-use lib.Bits.{bitXor, xor-zero-r}
+use lib.Bits.{bitXor, xor-zero-l, xor-zero-r}
 use lib.ListN.{length, set}
 use lib.Seq.{set-getD}
-use Rattle.lists.specs.Lists.{at, put}
-use Rattle.lists.proofs.PutLaws.{length-put, put-above, put-at, put-more, put-same, put-again}
+use Rattle.lists.specs.Lists.{at, put, grid}
+use Rattle.lists.proofs.PutLaws.{length-put, put-below, put-above, put-at, put-more, put-same, put-again, length-grid, grid-more}
 use Rattle.field.specs.Field.{plus, sum, times}
 use Rattle.field.proofs.SumLaws.{sum-more}
 use Rattle.field.proofs.XorLaws.{xor-assoc}
@@ -36,6 +36,14 @@ pub added-at : (len from : ℕ) (v : ℕ → ℕ) (d : List ℕ) (e : ℕ) → e
 unfolding added
 added-at len from v d e h l = put-at len from _ d e h l
 
+pub added-below : (len from : ℕ) (v : ℕ → ℕ) (d : List ℕ) (k : ℕ) → k < from → at (added len from v d) k ≡ at d k
+unfolding added
+added-below len from v d k h = put-below len from _ d k h
+
+pub added-above : (len from : ℕ) (v : ℕ → ℕ) (d : List ℕ) (k : ℕ) → from + len ≤ k → at (added len from v d) k ≡ at d k
+unfolding added
+added-above len from v d k h = put-above len from _ d k h
+
 pub added-same : (len from : ℕ) (u v : ℕ → ℕ) (d : List ℕ) → ((e : ℕ) → e < len → u e ≡ v e) → added len from u d ≡ added len from v d
 unfolding added
 added-same len from u v d h = put-same len from _ _ d (λ e l. ap (plus (at d (from + e))) (h e l))
@@ -56,6 +64,19 @@ added-twice len from u v d fits =
     put-same len from _ (λ e. plus (at d (from + e)) (plus (u e) (v e))) (added len from u d)
     (λ e l. ap (λ (x : ℕ). plus x (v e)) (put-at len from _ d e l fits) ∙ xor-assoc (at d (from + e)) (u e) (v e))
     ∙ put-again len from _ _ d fits
+
+-- to zeros
+pub added-cleared : (len from : ℕ) (v : ℕ → ℕ) (d : List ℕ) → from + len ≤ length d → added len from v (put len from (λ e. 0) d) ≡ put len from v d
+unfolding added
+added-cleared len from v d fits =
+    put-same len from _ v _ (λ e l. ap (λ (x : ℕ). plus x (v e)) (put-at len from (λ e. 0) d e l fits) ∙ xor-zero-l (v e)) ∙ put-again len from v _ d fits
+
+-- n rows are made: one more, of zeros, and a vector added to it
+pub row-made : (n m from : ℕ) (f : ℕ → ℕ → ℕ) (v : ℕ → ℕ) (d : List ℕ) {s z w : List ℕ} {place : ℕ} → from + (n + 1) * m ≤ length d → s ≡ grid n m from f d
+    → place ≡ from + n * m → z ≡ put m place (λ e. 0) s → w ≡ added m place v z → ((e : ℕ) → e < m → v e ≡ f n e) → w ≡ grid (n + 1) m from f d
+row-made n m from f v d {s} {place = place} fits made starts cleared combined same =
+    let long : place + m ≤ length s = omega (arith, ap length made, length-grid n m from f d) in
+    combined ∙ ap (added m place v) cleared ∙ added-cleared m place v s long ∙ put-same m place v (f n) s same ∙ grid-more n m from f d made starts
 
 -- ---- a combination, vector by vector
 

@@ -1,0 +1,36 @@
+-- The answer of a call as its check finds it, and the archive after that answer. Assumes nothing.
+use mathlib.Core.Path.{_≡_, sym, ap, _∙_}
+use mathlib.Core.Bool.{false}
+use Prim.Native.Nat.{ℕ}
+use mathlib.Core.List.{List}
+use lib.ListN.{length}
+use Rattle.answer.specs.declared.Outcome.{Outcome}
+use Rattle.answer.specs.declared.Outcome.the-variants.{Done, Refused}
+use Rattle.answer.specs.declared.Refusal.{Refusal}
+use Rattle.answer.proofs.RefusalLaws.{passed, after-done, after-refused}
+use Rattle.tag.specs.declared.Sizes.{Sizes}
+use Rattle.tag.proofs.SizeLaws.{Ranged}
+use Rattle.archive.specs.Layout.{archiveLength, sizesOf, idOf, filledIn, badArchive}
+use Rattle.archive.specs.Calls.{Call, answerFor, archiveAnswer, effectFor, archiveAfter}
+use Rattle.archive.proofs.GoodLaws.{good-sizes, good-length}
+
+-- the sizes as they were read
+module _ (s : List ℕ) {z : Sizes} (read : z ≡ sizesOf s) (good : badArchive s ≡ false) where
+  pub read-sizes : Ranged z
+  read-sizes = rw read (good-sizes s good)
+
+  pub read-length : length s ≡ archiveLength z
+  read-length = rw read (good-length s good)
+
+  pub answered : (c : Call) {o : Outcome} → o ≡ answerFor z (filledIn z s) c → o ≡ archiveAnswer s c
+  unfolding archiveAnswer
+  answered c e = e ∙ ap (λ (x : Sizes). answerFor x (filledIn x s) c) read ∙ sym (passed _ _ good)
+
+module _ (s : List ℕ) (c : Call) {o : Outcome} (answer : o ≡ archiveAnswer s c) where
+  pub call-written : o ≡ Done → {w : List ℕ} → w ≡ effectFor (sizesOf s) (idOf s) s c → w ≡ archiveAfter s c
+  unfolding archiveAfter
+  call-written e w = w ∙ sym (after-done _ _ (sym answer ∙ e))
+
+  pub call-kept : {r : Refusal} → o ≡ Refused r → s ≡ archiveAfter s c
+  unfolding archiveAfter
+  call-kept e = sym (after-refused _ _ (sym answer ∙ e))

@@ -1,0 +1,94 @@
+-- What Lose's answer tells, and what it writes. Assumes nothing.
+use Prim.Native.Nat.{ℕ, _+_, _*_, _<_, _≤_}
+use mathlib.Core.Path.{_≡_, sym, _∙_}
+use mathlib.Core.Bool.{Bool, true, false}
+use mathlib.Core.List.{List}
+use native.Mathlib.Nat.{add-zero, mul-le-mul-right}
+use native.Mathlib.Omega.{arith}
+use lib.ListN.{length}
+use borrow.Author.Tests.{le-leb, lt-leb, leb-false}
+use Rattle.lists.specs.Lists.{put, over}
+use Rattle.lists.proofs.PutLaws.{length-put, grid-put}
+use Rattle.answer.specs.declared.Outcome.{Outcome}
+use Rattle.answer.specs.declared.Outcome.the-variants.{Done, Refused}
+use Rattle.answer.specs.declared.Refusal.{Refusal}
+use Rattle.answer.specs.declared.Refusal.the-variants.{BadArchive, NoSuchPlace}
+use Rattle.answer.specs.Refusals.{Passed}
+use Rattle.answer.proofs.RefusalLaws.{refused, passed, accepted, after-done, after-refused}
+use Rattle.tag.specs.declared.Sizes.{Sizes}
+use Rattle.tag.specs.Sizes.{sizesOutside}
+use Rattle.tag.proofs.SizeLaws.{Ranged, not-sizes-outside}
+use Rattle.archive.specs.Layout.{placeCount, recordLength, recordStart, sizesOf, idOf, markAt, badArchive, withMarks, stored}
+use Rattle.archive.specs.Calls.{lose, answerFor, archiveAnswer, effectFor, archiveAfter}
+use Rattle.archive.proofs.SizeLaws.{count-low}
+use Rattle.archive.proofs.GoodLaws.{good-sizes, good-length}
+
+-- ---- the answer, refusal by refusal
+
+module _ (s : List ℕ) (node : ℕ) where
+  pub lose-bad : badArchive s ≡ true → Refused BadArchive ≡ archiveAnswer s (lose node)
+  unfolding archiveAnswer
+  lose-bad e = sym (refused _ _ e)
+
+  module _ {z : Sizes} (good : badArchive s ≡ false) (sizes : z ≡ sizesOf s) where
+    pub lose-nowhere : z .nodes ≤ node → Refused NoSuchPlace ≡ archiveAnswer s (lose node)
+    unfolding archiveAnswer answerFor
+    lose-nowhere h = sym (passed _ _ good ∙ refused _ _ (le-leb _ _ (rw sizes at h)))
+
+    pub lose-there : node < z .nodes → Done ≡ archiveAnswer s (lose node)
+    unfolding archiveAnswer answerFor
+    lose-there h = sym (passed _ _ good ∙ passed _ _ (lt-leb _ _ (rw sizes at h)))
+
+-- ---- where nothing is refused
+
+-- no marks, then zero records
+lose-stores : (z : Sizes) (id s : List ℕ) (node : ℕ)
+    → effectFor z id s (lose node)
+    ≡ put (z .places * recordLength z) (recordStart z (node * z .places)) (λ i. 0) (withMarks (over (node * z .places) (z .places) (λ j. false) (markAt s)) s)
+unfolding effectFor stored
+lose-stores z id s node = rw (add-zero (node * z .places)) (grid-put (z .places) (recordLength z) (recordStart z (node * z .places)) (λ i. 0) _)
+
+module _ (s : List ℕ) (node : ℕ) {z : Sizes} (done : Passed (archiveAnswer s (lose node))) (sizes : z ≡ sizesOf s) where
+  good : badArchive s ≡ false
+  unfolding archiveAnswer
+  good = accepted _ _ _ done .0
+
+  there : node < z .nodes
+  unfolding archiveAnswer answerFor
+  there = rw sizes (leb-false _ _ (accepted _ _ _ (accepted _ _ _ done .1) .0))
+
+  pub lose-ranged : Ranged z
+  lose-ranged = rw sizes (good-sizes s good)
+
+  pub lose-sized : sizesOutside z ≡ false
+  lose-sized = not-sizes-outside z lose-ranged
+
+  -- the node's places are among those of the archive, and so are their records
+  places-fit : node * z .places + z .places ≤ placeCount z
+  places-fit = omega (arith, mul-le-mul-right (z .places) there)
+
+  pub places-low : node * z .places + z .places ≤ 48
+  places-low = omega (arith, places-fit, count-low z lose-ranged)
+
+  pub records-fit : (mark : ℕ → Bool) {t : List ℕ} {start len : ℕ} → t ≡ withMarks mark s → start ≡ recordStart z (node * z .places) → len ≡ recordLength z
+      → start + z .places * len ≤ length t
+  unfolding withMarks
+  records-fit mark p q l =
+      rw (p, q, l, length-put, good-length s good, ← sizes) (omega (arith, mul-le-mul-right (recordLength z) places-fit))
+
+  pub long-enough : 18 ≤ length s
+  long-enough = omega (arith, good-length s good)
+
+  pub node-emptied : {t r : List ℕ} {start len : ℕ} → t ≡ withMarks (over (node * z .places) (z .places) (λ j. false) (markAt s)) s
+      → start ≡ recordStart z (node * z .places) → len ≡ recordLength z → r ≡ put (z .places * len) start (λ i. 0) t
+      → r ≡ effectFor (sizesOf s) (idOf s) s (lose node)
+  node-emptied p q l e = e ∙ rw (p, q, l, ← sizes) (sym (lose-stores z (idOf s) s node))
+
+module _ (s : List ℕ) (node : ℕ) {o : Outcome} (answer : o ≡ archiveAnswer s (lose node)) where
+  pub lose-written : o ≡ Done → {w : List ℕ} → w ≡ effectFor (sizesOf s) (idOf s) s (lose node) → w ≡ archiveAfter s (lose node)
+  unfolding archiveAfter
+  lose-written e w = w ∙ sym (after-done _ _ (sym answer ∙ e))
+
+  pub lose-kept : {r : Refusal} → o ≡ Refused r → s ≡ archiveAfter s (lose node)
+  unfolding archiveAfter
+  lose-kept e = sym (after-refused _ _ (sym answer ∙ e))

@@ -1,0 +1,87 @@
+-- Prove's answer as its check finds it, and what it tells. Assumes nothing.
+use Prim.Native.Nat.{ℕ, _+_, _-_, _<_}
+use mathlib.Core.Path.{_≡_, refl, sym, ap, _∙_}
+use mathlib.Core.Bool.{Bool, false, _||_}
+use mathlib.Core.List.{List, [], _∷_}
+use native.Mathlib.Omega.{arith}
+use lib.ListN.{length, take, drop}
+use Rattle.lists.specs.Lists.{at, anyOf}
+use Rattle.lists.proofs.AnyLaws.{any-first, any-rest, any-four}
+use Rattle.answer.specs.declared.Outcome.{Outcome}
+use Rattle.answer.specs.declared.Outcome.the-variants.{Done, Refused}
+use Rattle.answer.specs.declared.Refusal.{Refusal}
+use Rattle.answer.specs.Refusals.{differs}
+use Rattle.answer.proofs.RefusalLaws.{accepted, same, after-done, after-refused}
+use Rattle.tag.specs.declared.Sizes.{Sizes}
+use Rattle.mask.specs.Response.{responseLength}
+use Rattle.mask.proofs.ResponseLaws.{response-same}
+use Rattle.audit.specs.Challenge.{challengeOf, malformedChallenge}
+use Rattle.audit.specs.Verdict.{notThere}
+use Rattle.archive.specs.Layout.{blockLength, recordLength, sizesOf, idOf, badArchive}
+use Rattle.archive.specs.Prove.{proveFor, proveAnswer, responseFor, namedByte, provedFor, proveOut}
+use Rattle.archive.proofs.GoodLaws.{good-sizes, good-id}
+
+module _ (s maskKey elements seed message out : List ℕ) where
+  -- the test of lengths, over the sizes that were read
+  pub lengths-read : {z : Sizes} {t : Bool} → z ≡ sizesOf s
+      → (((differs (length maskKey) 32 || differs (length elements) (z .n - 1)) || differs (length seed) 11) || differs (length out) (z .n + 14)) ≡ t
+      → anyOf (differs (length maskKey) 32 ∷ differs (length elements) (sizesOf s .n - 1) ∷ differs (length seed) 11 ∷ differs (length out) (responseLength (sizesOf s .n)) ∷ []) ≡ t
+  lengths-read e h =
+      sym (any-four (differs (length maskKey) 32) (differs (length elements) (sizesOf s .n - 1)) (differs (length seed) 11) (differs (length out) (sizesOf s .n + 14)))
+      ∙ (rw e at h)
+
+  pub record Provable : Type 0 where
+    pub good : badArchive s ≡ false
+    pub formed : malformedChallenge message ≡ false
+    pub there : notThere (sizesOf s) (challengeOf message) ≡ false
+    pub key-length : length maskKey ≡ 32
+    pub elements-length : length elements ≡ sizesOf s .n - 1
+    pub seed-length : length seed ≡ 11
+    pub response-length : length out ≡ responseLength (sizesOf s .n)
+
+  pub provable : proveAnswer s maskKey elements seed message out ≡ Done → Provable
+  unfolding proveAnswer proveFor
+  provable e =
+      let one = accepted _ _ _ e in
+      let two = accepted _ _ _ (one .1) in
+      let three = accepted _ _ _ (two .1) in
+      let t = any-rest _ _ (three .0) in
+      let u = any-rest _ _ t in
+      record {
+        good = one .0;
+        formed = two .0;
+        there = accepted _ _ _ (three .1) .0;
+        key-length = same _ _ (any-first _ _ (three .0));
+        elements-length = same _ _ (any-first _ _ t);
+        seed-length = same _ _ (any-first _ _ u);
+        response-length = same _ _ (any-first _ _ (any-rest _ _ u));
+      }
+
+  module _ {o : Outcome} (answer : o ≡ proveAnswer s maskKey elements seed message out) where
+    pub prove-written : o ≡ Done → {w : List ℕ} → w ≡ provedFor (sizesOf s) (idOf s) s maskKey elements seed (challengeOf message)
+        → w ≡ proveOut s maskKey elements seed message out
+    unfolding proveOut
+    prove-written e w = w ∙ sym (after-done _ _ (sym answer ∙ e))
+
+    pub prove-kept : {r : Refusal} → o ≡ Refused r → out ≡ proveOut s maskKey elements seed message out
+    unfolding proveOut
+    prove-kept e = sym (after-refused _ _ (sym answer ∙ e))
+
+-- the part of an archive that is its id
+pub id-read : (s : List ℕ) → take 8 (drop 4 s) ≡ idOf s
+unfolding idOf
+id-read s = refl
+
+pub id-part : (s : List ℕ) → badArchive s ≡ false → length (take 8 (drop 4 s)) ≡ 8
+id-part s good = ap length (id-read s) ∙ good-id s good
+
+-- the response for the combined records of the named places
+pub proved-is : (s maskKey elements seed message combined : List ℕ) {sizes : Sizes} {node : ℕ} {key id w : List ℕ} → badArchive s ≡ false → sizes ≡ sizesOf s
+    → node ≡ challengeOf message .node → key ≡ maskKey → id ≡ idOf s
+    → ((e : ℕ) → e < recordLength (sizesOf s) → at combined e ≡ namedByte (sizesOf s) s (challengeOf message) e)
+    → w ≡ responseFor (sizes .n) id key elements seed node (at combined) (at combined (sizes .n + sizes .m))
+    → w ≡ provedFor (sizesOf s) (idOf s) s maskKey elements seed (challengeOf message)
+unfolding provedFor responseFor
+proved-is s maskKey elements seed message combined good e f k i named w =
+    w ∙ rw (e, f, k, i)
+    (response-same (sizesOf s .n) (challengeOf message .node) _ _ _ _ _ seed _ (good-sizes s good .n-low) (λ j h. named j (omega arith)) (named (blockLength (sizesOf s)) (omega arith)))

@@ -1,0 +1,26 @@
+use borrow.Author.Needs.{needs}
+use Prim.Native.Nat.{_+_, _*_}
+use mathlib.Core.Path.{ap}
+use native.Mathlib.Nat.{mul-le-mul}
+use native.Mathlib.Omega.{arith}
+use Rattle.tag.proofs.SizeLaws.{ranged}
+use Rattle.archive.proofs.SizeLaws.{count-low}
+use Rattle.archive.proofs.layout.archive_length.Statement.{statement}
+use Rattle.archive.proofs.layout.archive_length.Tie as tie
+
+mul-result : tie.Need-mul-result
+mul-result c = omega (arith, count-low _ (ranged _ (c .before .pre)))
+
+mul-result-2 : tie.Need-mul-result-2
+mul-result-2 c = omega (arith, mul-le-mul {n₂ = 48} {m₂ = 1041} (count-low _ (ranged _ (c .before .before .pre))) (c .record-length .ensures .1))
+
+add-result : tie.Need-add-result
+add-result c = omega (arith, mul-le-mul {n₂ = 48} {m₂ = 1041} (count-low _ (ranged _ (c .before .before .pre))) (c .record-length .ensures .1))
+
+returns : tie.Need-returns
+returns c =
+    let z = c .before .before .args .z in
+    ap (λ r. 18 + z .nodes * z .places * r) (c .record-length .ensures .0)
+
+pub archive-length-spec : {M : Type 1} → statement M
+archive-length-spec = tie.close (tie.spec mul-result (λ c κs. search needs) mul-result-2 add-result returns)

@@ -1,0 +1,56 @@
+use borrow.Author.Needs.{needs}
+use mathlib.Core.Path.{sym}
+use native.Mathlib.Omega.{arith}
+use Rattle.tag.proofs.SizeLaws.{ranged}
+use Rattle.archive.proofs.SizeLaws.{count-low}
+use Rattle.archive.proofs.BadLaws.{too-short, header-bad, sizes-good, length-bad, only-marks}
+use Rattle.archive.proofs.layout.bad_archive.Statement.{statement}
+use Rattle.archive.proofs.layout.bad_archive.Tie as tie
+
+returns : tie.Need-returns
+returns c = sym (too-short _ (c .if1 .taken))
+
+returns-2 : tie.Need-returns-2
+returns-2 c =
+    let b = c .before .before in
+    sym (header-bad _ (b .before .before .sizes-in .ensures) (b .before .read-field .ensures) (b .read-field2 .ensures) (c .before .sizes-outside .ensures) (c .if2 .taken))
+
+archive-length-requires : tie.Need-archive-length-requires
+archive-length-requires c κs =
+    let b = c .before .before in
+    sizes-good _ (b .before .before .sizes-in .ensures) (b .before .read-field .ensures) (b .read-field2 .ensures) (c .before .sizes-outside .ensures) (c .if2 .left)
+
+returns-3 : tie.Need-returns-3
+returns-3 c =
+    let b = c .before .before .before .before in
+    sym (length-bad _ (b .before .before .sizes-in .ensures) (b .before .read-field .ensures) (b .read-field2 .ensures) (c .before .before .before .sizes-outside .ensures)
+    (c .before .archive-length .ensures) (c .if3 .taken))
+
+mul-any-spare-mark : tie.Need-mul-any-spare-mark
+mul-any-spare-mark c =
+    let b = c .before .before .before .before .before in
+    let good = sizes-good _ (b .before .before .sizes-in .ensures) (b .before .read-field .ensures) (b .read-field2 .ensures) (c .before .before .before .before .sizes-outside .ensures)
+    (c .before .before .before .if2 .left) in
+    omega (arith, count-low _ (ranged _ good))
+
+returns-4 : tie.Need-returns-4
+returns-4 c =
+    let b = c .before .before .before .before .before .before in
+    only-marks _ (b .before .before .sizes-in .ensures) (b .before .read-field .ensures) (b .read-field2 .ensures) (c .before .before .before .before .before .sizes-outside .ensures)
+    (c .before .before .before .before .if2 .left) (c .before .before .before .archive-length .ensures) (c .before .before .if3 .left) (c .any-spare-mark .ensures)
+
+pub bad-archive-spec : {M : Type 1} → statement M
+bad-archive-spec =
+    tie.close
+    (tie.spec
+    returns
+    (λ c κs. search needs)
+    (λ c κs. search needs)
+    (λ c κs. search needs)
+    (λ c κs. search needs)
+    returns-2
+    archive-length-requires
+    returns-3
+    mul-any-spare-mark
+    (λ c κs. search needs)
+    returns-4)

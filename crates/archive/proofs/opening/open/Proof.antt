@@ -1,0 +1,30 @@
+use borrow.Author.Needs.{needs}
+use Rattle.archive.proofs.OpenLaws.{open-tells, open-written, open-kept}
+use Rattle.archive.proofs.opening.open.Statement.{statement}
+use Rattle.archive.proofs.opening.open.Tie as tie
+
+write-new-requires : tie.Need-write-new-requires
+write-new-requires c κs = open-tells _ _ _ (c .before .before .before .open-check .ensures) (c .before .enum-told .given .1)
+
+returns : tie.Need-returns
+returns c =
+    let a = c .before .before .before .before .before .before .open-check .ensures in
+    (a, open-written _ _ _ a (c .before .before .before .before .enum-told .given .1) (c .before .before .write-new .ensures))
+
+returns-2 : tie.Need-returns-2
+returns-2 c =
+    let a = c .before .before .open-check .ensures in
+    (a, open-kept _ _ _ a (c .enum-told2 .given .1))
+
+pub open-spec : {M : Type 1} → statement M
+open-spec =
+    tie.close
+    (tie.spec
+    (λ c κs. search needs)
+    (λ c. search needs)
+    write-new-requires
+    (λ c. search needs)
+    (λ c. search needs)
+    returns
+    (λ c. search needs)
+    returns-2)

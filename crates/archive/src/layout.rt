@@ -1,0 +1,87 @@
+// Header and fill marks: sizes, offsets, what is read of an archive and what makes one bad.
+ghost use mathlib.Core.Path.{_≡_};
+ghost use mathlib.Core.Bool.{false};
+ghost use Prim.Native.Nat.{_+_, _*_, _<_, _≤_};
+ghost use lib.ListN.{length};
+ghost use lib.Dec.{leb};
+ghost use Rattle.lists.specs.Lists.{pick, anyBelow};
+ghost use Rattle.tag.specs.Sizes.{sizesOutside};
+ghost use Rattle.archive.specs.Layout.{placeCount, recordLength, archiveLength, recordStart, sizesOf, markAt, badArchive};
+use tag::Sizes;
+
+// The bytes of a record: block, then tag.
+pub fn record_length(z: Sizes) -> usize
+    requires { ⌜ sizesOutside z ≡ false ⌝ }
+    ensures { λ r. ⌜ (r ≡ recordLength z) × (r ≤ 1041) ⌝ }
+{
+    z.n + z.m + 1
+}
+
+// The bytes of an archive.
+pub fn archive_length(z: Sizes) -> usize
+    requires { ⌜ sizesOutside z ≡ false ⌝ }
+    ensures { λ r. ⌜ r ≡ archiveLength z ⌝ }
+{
+    18 + z.nodes * z.places * record_length(z)
+}
+
+// Where the record of place number k starts.
+pub fn record_start(z: Sizes, k: usize) -> usize
+    requires { ⌜ (sizesOutside z ≡ false) × (k < 48) ⌝ }
+    ensures { λ r. ⌜ r ≡ recordStart z k ⌝ }
+{
+    18 + k * record_length(z)
+}
+
+// The sizes in a header.
+pub fn sizes_in(s: &[u8]) -> Sizes
+    requires { ⌜ 4 ≤ length (now s) ⌝ }
+    ensures { λ r. ⌜ r ≡ sizesOf (now (s .entry)) ⌝ }
+{
+    Sizes {
+        n: bits::read_field(s, 4, 11),
+        m: bits::read_field(s, 15, 5),
+        places: bits::read_field(s, 20, 4),
+        nodes: bits::read_field(s, 24, 3),
+    }
+}
+
+// Whether place number k is marked as filled.
+pub fn marked(s: &[u8], k: usize) -> bool
+    requires { ⌜ (k < 48) × (18 ≤ length (now s)) ⌝ }
+    ensures { λ r. ⌜ r ≡ markAt (now (s .entry)) k ⌝ }
+{
+    bits::read_field(s, 96 + k, 1) == 1
+}
+
+// Whether a mark is set that belongs to none of the first `count` places.
+fn any_spare_mark(s: &[u8], count: usize) -> bool
+    requires { ⌜ 18 ≤ length (now s) ⌝ }
+    ensures { λ r. ⌜ r ≡ anyBelow 48 (λ k. pick (leb count k) (markAt (now (s .entry)) k) false) ⌝ }
+{
+    for k in 0..48 {
+        if (count <= k) & marked(s, k) {
+            return true;
+        }
+    }
+    false
+}
+
+// Whether s breaks a rule of document 01's archives.
+pub fn bad_archive(s: &[u8]) -> bool
+    ensures { λ r. ⌜ r ≡ badArchive (now (s .entry)) ⌝ }
+{
+    if s.len() < 18 {
+        return true;
+    }
+    let z = sizes_in(s);
+    let layout = bits::read_field(s, 0, 4);
+    let spare = bits::read_field(s, 27, 5);
+    if (layout != 1) | tag::sizes_outside(z) | (spare != 0) {
+        return true;
+    }
+    if s.len() != archive_length(z) {
+        return true;
+    }
+    any_spare_mark(s, z.nodes * z.places)
+}

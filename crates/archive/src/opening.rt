@@ -1,0 +1,62 @@
+// Open: a new archive.
+ghost use mathlib.Core.Path.{_≡_};
+ghost use mathlib.Core.Bool.{false};
+ghost use lib.ListN.{length};
+ghost use Rattle.tag.specs.Sizes.{sizesOutside};
+ghost use Rattle.archive.specs.Layout.{archiveLength, opened, openAnswer, openOut};
+use crate::layout::archive_length;
+use answer::Outcome;
+use answer::Refusal;
+use tag::Sizes;
+
+// The first refusal of Open.
+fn open_check(z: Sizes, id: &[u8], archive: &[u8]) -> Outcome
+    ensures { λ r. ⌜ r ≡ openAnswer z (now (id .entry)) (now (archive .entry)) ⌝ }
+{
+    if tag::sizes_outside(z) {
+        return Outcome::Refused(Refusal::Size);
+    }
+    if (id.len() != 8) | (archive.len() != archive_length(z)) {
+        return Outcome::Refused(Refusal::Length);
+    }
+    Outcome::Done
+}
+
+// The header of these sizes and this id, no marks, and zero records.
+fn write_new(z: Sizes, id: &[u8], archive: &mut [u8])
+    requires { ⌜ (sizesOutside z ≡ false) × (length (now id) ≡ 8) × (length (now archive) ≡ archiveLength z) ⌝ }
+    ensures { λ _. ⌜ now (archive .exit) ≡ opened z (now (id .entry)) ⌝ }
+{
+    lists::clear(archive);
+    bits::write_field(archive, 0, 4, 1);
+    bits::write_field(archive, 4, 11, z.n);
+    bits::write_field(archive, 15, 5, z.m);
+    bits::write_field(archive, 20, 4, z.places);
+    bits::write_field(archive, 24, 3, z.nodes);
+    lists::store(id, 0, archive, 4, 8);
+}
+
+// A new archive of n, m, places a node and nodes (document 01: M places a box, N boxes).
+pub fn open(
+    n: usize,
+    m: usize,
+    places: usize,
+    nodes: usize,
+    id: &[u8],
+    archive: &mut [u8],
+) -> Outcome
+    ensures answer { λ r. ⌜ r ≡ openAnswer (record { n = n; m = m; places = places; nodes = nodes }) (now (id .entry)) (now (archive .entry)) ⌝ }
+    ensures output { λ _. ⌜ now (archive .exit) ≡ openOut (record { n = n; m = m; places = places; nodes = nodes }) (now (id .entry)) (now (archive .entry)) ⌝ }
+{
+    let z = Sizes {
+        n,
+        m,
+        places,
+        nodes,
+    };
+    let answer = open_check(z, id, archive);
+    if let Outcome::Done = answer {
+        write_new(z, id, archive);
+    }
+    answer
+}
