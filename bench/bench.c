@@ -1,18 +1,17 @@
-/* The two inner loops, Setup and Unmask beside plain scalar C in one process: nanoseconds a keystream byte, a product and a call
-   at n = 1,024, and whether the results agree. Each pair is timed in turn, ROUNDS times, and the best round of each counts. PAD bytes shift the code: short loops
-   run up to three times as long where they lie badly, on either side, so bench/run tries several places. */
+/* The two inner loops, Setup and Unmask beside plain scalar C in one process: nanoseconds a keystream byte, a product and a call at
+   n = 1,024, and whether the results agree. Each pair is timed in turn, ROUNDS times, and the best round of each counts. PAD bytes
+   shift the code: short loops run up to three times as long where they lie badly, on either side, so bench/run tries several
+   places. */
 #include <stddef.h>
 #include <stdint.h>
 #include <stdio.h>
 #include <string.h>
 #include <time.h>
 
+#include "../include/span_archive.h"
+
 uint8_t loops_product(const uint8_t *a, size_t a_len, const uint8_t *b, size_t b_len);
 uint8_t loops_draw(const uint8_t *key, const uint8_t *nonce, size_t n);
-uint8_t span_setup(const uint8_t *tag_key, size_t tag_key_len, const uint8_t *mask_key, size_t mask_key_len, const uint8_t *id, size_t id_len,
-                   size_t n, uint8_t *auxiliary, size_t auxiliary_len);
-uint8_t span_unmask(size_t n, const uint8_t *id, size_t id_len, const uint8_t *mask_key, size_t mask_key_len, const uint8_t *response,
-                    size_t response_len, uint8_t *out, size_t out_len);
 
 #define TEXT(x) #x
 #define SKIP(n) __asm__(".text\n.skip " TEXT(n) "\n")
