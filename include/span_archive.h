@@ -1,9 +1,8 @@
 /* The span archive's operations for C (link target/staticlib/libspan.a, which `rt staticlib span` makes).
 
-   A byte slice is a pointer and a length; a pointer may be anything where its length is 0. Every buffer is the caller's, before and
-   after the call; nothing is kept. Two buffers of one call must not overlap where one of them is written. Any bytes, lengths and
-   numbers may be passed. A function returns 0 when it is done, else the first refusal below that applies, in the order given, and then
-   every lent byte is as it was:
+   A byte slice is a pointer, never NULL, and a length. Every buffer is the caller's, before and after the call; nothing is kept. Two
+   buffers of one call must not overlap where one of them is written. Any bytes, lengths and numbers may be passed. A function returns
+   0 when it is done, else the first refusal below that applies, in the order given, and then every lent byte is as it was:
 
        1 a size outside its range       6 a place that would be filled is filled
        2 a buffer of wrong length       7 the first n-2 key elements are all zero

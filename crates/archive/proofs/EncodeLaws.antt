@@ -4,7 +4,7 @@ use mathlib.Core.Path.{_≡_, refl, sym, ap, ap₂, _∙_}
 use mathlib.Core.Bool.{Bool, true, false}
 use mathlib.Core.List.{List, [], _∷_}
 use mathlib.Core.Logic.{⊎-elim}
-use native.Mathlib.Nat.{mul-le-mul, mul-le-mul-right}
+use native.Mathlib.Nat.{mul-le-mul}
 use native.Mathlib.Omega.{arith}
 use lib.Dec.{leb}
 use lib.ListN.{length, set, take, drop}
@@ -29,7 +29,7 @@ use Rattle.tag.proofs.AddedLaws.{length-added, added-at, added-below, added-abo
 use Rattle.archive.specs.Layout.{blockLength, recordLength, recordStart, placeCount, placeNumber, sizesOf, idOf, markAt, withMarks, stored}
 use Rattle.archive.specs.Blocks.{fileLength, paddingLength, source, coded, codedRecord}
 use Rattle.archive.specs.Calls.{encode, answerFor, archiveAnswer, effectFor}
-use Rattle.archive.proofs.SizeLaws.{number-low, count-low}
+use Rattle.archive.proofs.SizeLaws.{number-low, count-low, record-fits}
 use Rattle.archive.proofs.GoodLaws.{good-sizes, good-length}
 use Rattle.archive.proofs.BlockLaws.{source-file, coded-row}
 
@@ -66,7 +66,7 @@ module _ (s : List ℕ) (node place : ℕ) (file padding key row : List ℕ) whe
       record {
         sizes = R;
         number = omega (arith, count-low z R);
-        fits = omega (arith, mul-le-mul-right (recordLength z) low, good-length s (a .0));
+        fits = omega (arith, record-fits z _ low, good-length s (a .0));
         file-length = same _ _ (any-first _ _ (l .0));
         padding-length = same _ _ (any-first _ _ l2);
         key-length = same _ _ (any-first _ _ l3);

@@ -4,7 +4,6 @@ use mathlib.Core.Path.{_≡_, refl, sym, ap, _∙_}
 use mathlib.Core.Bool.{Bool, false, _||_}
 use mathlib.Core.List.{List, [], _∷_, _++_}
 use mathlib.Core.Logic.{⊎-elim}
-use native.Mathlib.Nat.{mul-le-mul-right}
 use native.Mathlib.Omega.{arith}
 use lib.ListN.{length, List·getD-append}
 use Rattle.lists.specs.Lists.{at, tab, put, anyOf}
@@ -22,6 +21,7 @@ use Rattle.bits.proofs.AppendLaws.{holds-none, holds-more}
 use Rattle.tag.specs.declared.Sizes.{Sizes}
 use Rattle.tag.specs.Sizes.{sizesOutside}
 use Rattle.archive.specs.Layout.{placeCount, recordLength, archiveLength, recordStart, sizeFields, archiveOf, opened, openAnswer, openOut}
+use Rattle.archive.proofs.SizeLaws.{record-fits}
 use Rattle.archive.proofs.LayoutLaws.{sizes-length, length-archive, archive-front, archive-marks, archive-byte, same-bytes}
 
 -- ---- the answer
@@ -86,15 +86,11 @@ module _ (z : Sizes) (id : List ℕ) (e : length id ≡ 8) where
       zero-byte (12 + j) (omega arith) (omega arith)
       ∙ sym (archive-marks z id e (λ k. false) (λ k p. 0) j h ∙ packed-zero 6 (λ k. false) j h (λ i l. refl))
 
-  -- record k ends within the archive
-  within : (k p : ℕ) → k < placeCount z → p < recordLength z → recordStart z k + p < archiveLength z
-  within k p h hp = omega (arith, mul-le-mul-right (recordLength z) h)
-
   made-is : made ≡ opened z id
   unfolding opened
   made-is =
       same-bytes z made new (length-put 8 4 _ sized ∙ packed-length (archiveLength z) (bitsOf (sizeFields z))) (length-archive z id e _ _) made-front made-marks
-      (λ k p h hp. zero-byte (recordStart z k + p) (omega arith) (within k p h hp) ∙ sym (archive-byte z id e (λ k. false) (λ k p. 0) k p h hp))
+      (λ k p h hp. zero-byte (recordStart z k + p) (omega arith) (omega (arith, record-fits z k h)) ∙ sym (archive-byte z id e (λ k. false) (λ k p. 0) k p h hp))
 
 -- five fields on cleared bytes: the five zero bits behind them are there
 sizes-written : (z : Sizes) {n len : ℕ} {a b c d f s : List ℕ} → n ≡ len → a ≡ tab n (λ i. 0) → b ≡ withField a 0 4 1 → c ≡ withField b 4 11 (z .n)

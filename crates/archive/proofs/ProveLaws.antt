@@ -3,7 +3,7 @@ use Prim.Native.Nat.{ℕ, _+_, _*_, _<_, _≤_}
 use mathlib.Core.Path.{_≡_, refl, sym, ap, ap₂, _∙_}
 use mathlib.Core.Bool.{Bool, false, not}
 use mathlib.Core.List.{List}
-use native.Mathlib.Nat.{mul-le-mul, mul-le-mul-right}
+use native.Mathlib.Nat.{mul-le-mul}
 use native.Mathlib.Omega.{arith}
 use lib.ListN.{length, replicate, getD-replicate}
 use borrow.Author.Tests.{leb-false}
@@ -12,25 +12,15 @@ use Rattle.lists.proofs.AnyLaws.{any-first, any-rest, any-below}
 use Rattle.field.specs.Field.{plus, times}
 use Rattle.bits.specs.Fields.{fieldAt}
 use Rattle.tag.specs.declared.Sizes.{Sizes}
-use Rattle.tag.specs.Sizes.{sizesOutside}
 use Rattle.tag.specs.Vectors.{mixed, added}
 use Rattle.tag.proofs.AddedLaws.{added-at, mixed-more}
 use Rattle.audit.specs.Challenge.{Challenge, challengeBits, challengeOf, malformedChallenge}
 use Rattle.audit.specs.Verdict.{notThere}
 use Rattle.audit.proofs.ReadLaws.{readable}
-use Rattle.archive.specs.Layout.{placeCount, recordLength, archiveLength, placeNumber, recordStart, sizesOf, filledIn, byteIn, badFor, badArchive}
+use Rattle.archive.specs.Layout.{placeCount, recordLength, placeNumber, recordStart, sizesOf, byteIn, badArchive}
 use Rattle.archive.specs.Prove.{namedByte}
-use Rattle.archive.proofs.SizeLaws.{number-low, count-low}
+use Rattle.archive.proofs.SizeLaws.{number-low, count-low, record-fits}
 use Rattle.archive.proofs.GoodLaws.{good-sizes, good-length}
-
--- the sizes that code read from an archive that is not bad
-pub read-inside : (s : List ℕ) {z : Sizes} → badArchive s ≡ false → z ≡ sizesOf s → sizesOutside z ≡ false
-unfolding badFor
-read-inside s good e = rw e (any-first _ _ (any-rest _ _ good))
-
--- the record of a place lies in the archive
-pub record-fits : (z : Sizes) (k : ℕ) → k < placeCount z → recordStart z k + recordLength z ≤ archiveLength z
-record-fits z k h = omega (arith, mul-le-mul-right {m = k + 1} {n = placeCount z} (recordLength z) (omega arith))
 
 -- the records of the first j named places, combined
 abbrev pub firstRecords : List ℕ → Challenge → ℕ → ℕ → ℕ

@@ -24,7 +24,7 @@ use Rattle.tag.specs.Vectors.{mixed}
 use Rattle.tag.proofs.SizeLaws.{Ranged}
 use Rattle.archive.specs.Layout.{recordLength, archiveLength, recordStart, placeNumber, sizesOf, idOf, markAt, byteIn, badArchive, withMarks, stored}
 use Rattle.archive.specs.Calls.{repair, answerFor, archiveAnswer, coefficient, repairByte, targetByte, effectFor, scratchMade, scratchAfter}
-use Rattle.archive.proofs.SizeLaws.{number-low, count-low}
+use Rattle.archive.proofs.SizeLaws.{number-low, count-low, record-fits}
 use Rattle.archive.proofs.GoodLaws.{good-sizes, good-length}
 
 -- ---- sizes
@@ -37,7 +37,7 @@ module _ (z : Sizes) (R : Ranged z) where
   marks-in node h = omega (arith, mul-le-mul-right (z .places) h, count-low z R)
 
   pub record-in : (node place : ℕ) → node < z .nodes → place < z .places → recordStart z (placeNumber z node place) + recordLength z ≤ archiveLength z
-  record-in node place h hp = omega (arith, mul-le-mul-right (recordLength z) (number-low z R node place h hp))
+  record-in node place h hp = record-fits z (placeNumber z node place) (number-low z R node place h hp)
 
 -- the records of a node
 pub node-in : (z : Sizes) (node : ℕ) → node < z .nodes → recordStart z (node * z .places) + z .places * recordLength z ≤ archiveLength z

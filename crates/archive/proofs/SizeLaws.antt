@@ -1,10 +1,10 @@
 -- The numbers of places of sizes in range. Assumes nothing.
-use Prim.Native.Nat.{ℕ, _/_, _%_, _<_, _≤_}
+use Prim.Native.Nat.{ℕ, _+_, _/_, _%_, _<_, _≤_}
 use native.Mathlib.Nat.{mul-le-mul, mul-le-mul-right, mod-lt, div-lt-iff-lt-mul}
 use native.Mathlib.Omega.{arith}
 use Rattle.tag.specs.declared.Sizes.{Sizes}
 use Rattle.tag.proofs.SizeLaws.{Ranged}
-use Rattle.archive.specs.Layout.{placeCount, placeNumber}
+use Rattle.archive.specs.Layout.{placeCount, recordLength, archiveLength, placeNumber, recordStart}
 
 module _ (z : Sizes) (R : Ranged z) where
   pub number-low : (node place : ℕ) → node < z .nodes → place < z .places → placeNumber z node place < placeCount z
@@ -19,3 +19,7 @@ module _ (z : Sizes) (R : Ranged z) where
 
   pub place-of : (k : ℕ) → k % z .places < z .places
   place-of k = mod-lt k (R .places-low)
+
+-- the record of a place lies in the archive
+pub record-fits : (z : Sizes) (k : ℕ) → k < placeCount z → recordStart z k + recordLength z ≤ archiveLength z
+record-fits z k h = omega (arith, mul-le-mul-right {m = k + 1} {n = placeCount z} (recordLength z) (omega arith))

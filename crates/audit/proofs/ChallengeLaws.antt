@@ -15,7 +15,7 @@ use Rattle.answer.specs.declared.Outcome.the-variants.{Done}
 use Rattle.answer.specs.Refusals.{afterwards}
 use Rattle.answer.proofs.RefusalLaws.{accepted, same, inside}
 use Rattle.bits.specs.Fields.{Field, _wide_, widths, number, bytesFor, fieldAt}
-use Rattle.bits.proofs.NumberLaws.{number-same}
+use Rattle.bits.proofs.NumberLaws.{number-same, number-zero}
 use Rattle.bits.proofs.PackLaws.{pack-length, pack-field, pack-spare}
 use Rattle.bits.proofs.AppendLaws.{widths-more}
 use Rattle.audit.specs.Challenge.{Challenge, items, challengeFields, challengeBytes, challengeBits, challengeLength, outOfRule, challengeIn, challengeOf, malformedFor, malformedChallenge, challengeAnswer, challengeOut}
@@ -32,11 +32,6 @@ items-width : (c : Challenge) (i k : ℕ) → widths (items c i k) ≡ 11 * k
 unfolding items widths
 items-width c i zero = refl
 items-width c i (suc k) = rw (items-width c (suc i) k) (omega arith)
-
-number-none : (w : ℕ) → number (λ i. false) w ≡ 0
-unfolding number
-number-none zero = refl
-number-none (suc w) = rw (number-none w)
 
 -- the fields before item j
 abbrev pub fieldsBefore : Challenge → ℕ → List Field
@@ -136,7 +131,7 @@ module _ (c : Challenge) (R : InRule c) (even : length (c .coefficients) ≡ len
   spare-back =
       number-same _ (λ i. false) (8 * challengeLength count - challengeBits count)
       (λ i h. pack-spare (challengeFields c) (challengeBits count + i) (omega (arith, before-width count)))
-      ∙ number-none (8 * challengeLength count - challengeBits count)
+      ∙ number-zero (8 * challengeLength count - challengeBits count)
 
   pub well-formed : outOfRule (c .node) (c .places) ≡ false → malformedChallenge s ≡ false
   unfolding malformedFor anyOf

@@ -5,12 +5,12 @@ use mathlib.Core.Bool.{Bool, true, false}
 use mathlib.Core.List.{List}
 use mathlib.Core.Logic.{_↔_}
 use native.Mathlib.Omega.{arith}
-use lib.Bits.{bitXor, xor-self, xor-zero-r}
+use lib.Bits.{xor-self}
 use lib.Dec.{ltb}
 use borrow.Author.Tests.{eq-eqb, ne-eqb, eqb-true, eqb-false}
 use Rattle.lists.specs.Lists.{pick}
 use Rattle.field.specs.Field.{plus}
-use Rattle.field.proofs.XorLaws.{xor-assoc, xor-swap}
+use Rattle.field.proofs.XorLaws.{xor-undo, xor-swap}
 use Rattle.tag.specs.declared.Sizes.{Sizes}
 use Rattle.tag.specs.Vectors.{product}
 use Rattle.tag.proofs.VectorLaws.{product-same, product-left, product-cut}
@@ -50,12 +50,9 @@ module _ (z : Sizes) (vector row : ℕ → ℕ) (other sent : List ℕ) where
 
   fro : total sent ≡ wanted sent → Changes → total other ≡ wanted other
   fro p c =
-      undo (total other) (total sent)
+      sym (xor-undo (total other) (total sent))
       ∙ ap₂ plus (difference ∙ c ∙ xor-swap (tagIn (z .n) other) (tagIn (z .n) sent) (sumIn (z .n) other) (sumIn (z .n) sent)) p
-      ∙ sym (undo (wanted other) (wanted sent))
-    where
-      undo : (a b : ℕ) → a ≡ plus (plus a b) b
-      undo a b = sym (xor-assoc a b b ∙ ap (bitXor a) (xor-self b) ∙ xor-zero-r a)
+      ∙ xor-undo (wanted other) (wanted sent)
 
   pub altered : accepts z vector row sent ≡ true
       → ((accepts z vector row other ≡ true) ↔ Changes) × ((accepts z vector row other ≡ false) ↔ (¬ Changes))

@@ -56,6 +56,12 @@ pub number-none : (f : ℕ → Bool) → 0 ≡ number f 0
 unfolding number
 number-none f = refl
 
+-- no bit is set
+pub number-zero : (w : ℕ) → number (λ i. false) w ≡ 0
+unfolding number
+number-zero zero = refl
+number-zero (suc w) = rw (number-zero w)
+
 pub number-more : (f : ℕ → Bool) (w : ℕ) {x y : ℕ} → x ≡ number f w → y ≡ bit (f w) → x * 2 + y ≡ number f (w + 1)
 unfolding number
 number-more f w e h = rw (add-one, e, h)

@@ -78,18 +78,8 @@ is-put n from f d s e l within below above =
 -- other values in the same places
 pub put-again : (n from : ℕ) (f g : ℕ → ℕ) (d : List ℕ) → from + n ≤ length d → put n from f (put n from g d) ≡ put n from f d
 put-again n from f g d l =
-    let long : from + n ≤ length (put n from g d) = rw length-put l in
-    ext-getD 0 _ _ (simp length-put) (λ (k : ℕ) h.
-    ⊎-elim
-    (λ (a : k < from). put-below n from f (put n from g d) k a ∙ put-below n from g d k a ∙ sym (put-below n from f d k a))
-    (λ (a : from ≤ k).
-    ⊎-elim
-    (λ (b : k < from + n).
-    let q : k ≡ from + (k - from) = omega arith in
-    rw q (put-at n from f (put n from g d) (k - from) (omega arith) long ∙ sym (put-at n from f d (k - from) (omega arith) l)))
-    (λ (b : from + n ≤ k). put-above n from f (put n from g d) k b ∙ put-above n from g d k b ∙ sym (put-above n from f d k b))
-    (order k (from + n)))
-    (order k from))
+    is-put n from f d _ (length-put n from f (put n from g d) ∙ length-put n from g d) l (λ i h. put-at n from f (put n from g d) i h (rw length-put l))
+    (λ k h. put-below n from f (put n from g d) k h ∙ put-below n from g d k h) (λ k h. put-above n from f (put n from g d) k h ∙ put-above n from g d k h)
 
 -- k blocks of n stores are made: one block more
 pub put-block : (n k from : ℕ) (f g : ℕ → ℕ) (d : List ℕ) {s t : List ℕ} {place : ℕ} → s ≡ put (n * k) from f d → place ≡ from + n * k

@@ -1,10 +1,9 @@
 -- Unmask takes off the mask that a response was made with. Assumes nothing.
 use Prim.Native.Nat.{ℕ, _+_, _-_, _<_, _≤_}
-use mathlib.Core.Path.{_≡_, ap, _∙_}
+use mathlib.Core.Path.{_≡_, _∙_}
 use mathlib.Core.Bool.{false}
 use mathlib.Core.List.{List, [], _∷_}
 use native.Mathlib.Omega.{arith}
-use lib.Bits.{bitXor, xor-self, xor-zero-r}
 use lib.Dec.{ltb}
 use lib.ListN.{length}
 use borrow.Author.Tests.{lt-ltb, le-ltb, eq-eqb}
@@ -14,16 +13,13 @@ use Rattle.answer.specs.declared.Outcome.the-variants.{Done}
 use Rattle.answer.specs.declared.Refusal.the-variants.{Size, Length, Malformed}
 use Rattle.answer.specs.Refusals.{differs}
 use Rattle.answer.proofs.RefusalLaws.{passed, after-done, not-outside}
-use Rattle.field.proofs.XorLaws.{xor-assoc}
+use Rattle.field.proofs.XorLaws.{xor-undo}
 use Rattle.bits.specs.Fields.{_wide_, widths, fieldAt}
 use Rattle.bits.proofs.PackLaws.{pack-field}
 use Rattle.mask.specs.Masks.{maskRow, maskCoefficient, mask}
 use Rattle.mask.specs.Response.{responseLength, responseHead, responseBytes}
 use Rattle.mask.specs.Operations.{unmaskAnswer, unmasked, unmaskOut}
 use Rattle.mask.proofs.ResponseLaws.{response-length, response-fields, response-seed, response-data}
-
-off-again : (b h : ℕ) → bitXor (bitXor b h) h ≡ b
-off-again b h = xor-assoc b h h ∙ ap (bitXor b) (xor-self h) ∙ xor-zero-r b
 
 module _ (n node : ℕ) (block : ℕ → ℕ) (tag total : ℕ) (id maskKey seed : List ℕ) (low : 3 ≤ n) (seed-size : length seed ≡ 11) where
   abbrev hidden : ℕ → ℕ
@@ -40,7 +36,7 @@ module _ (n node : ℕ) (block : ℕ → ℕ) (tag total : ℕ) (id maskKey seed
         response-data n node block tag hidden seed total low seed-size e (omega arith),
         lt-ltb e (n - 2) h,
       )
-      (off-again (block e) (hidden e))
+      (xor-undo (block e) (hidden e))
 
   -- ---- and refuses no such response
 

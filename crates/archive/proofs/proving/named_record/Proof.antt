@@ -4,11 +4,13 @@ use mathlib.Core.Path.{_≡_}
 use native.Mathlib.Omega.{arith}
 use lib.ListN.{length, replicate}
 use Rattle.tag.specs.Vectors.{added}
+use Rattle.tag.proofs.SizeLaws.{not-sizes-outside}
 use Rattle.tag.proofs.AddedLaws.{mixed-none}
 use Rattle.audit.specs.Challenge.{challengeOf}
 use Rattle.archive.specs.Layout.{recordLength, sizesOf}
 use Rattle.archive.proofs.GoodLaws.{good-length}
-use Rattle.archive.proofs.ProveLaws.{read-inside, firstRecords, first-low, item-fits, number-is, number-fits, record-there, named-more, named-all}
+use Rattle.archive.proofs.CallLaws.{read-sizes}
+use Rattle.archive.proofs.ProveLaws.{firstRecords, first-low, item-fits, number-is, number-fits, record-there, named-more, named-all}
 use Rattle.archive.proofs.proving.named_record.Statement.{statement}
 use Rattle.archive.proofs.proving.named_record.Tie as tie
 
@@ -24,7 +26,7 @@ sizes-in-requires : tie.Need-sizes-in-requires Inv-loop μ-loop
 sizes-in-requires c κs = let b = c .before .before in omega (arith, good-length (b .args .archive .now) (b .pre .2))
 
 record-length-requires : tie.Need-record-length-requires Inv-loop μ-loop
-record-length-requires c κs = let b = c .before .before .before in read-inside (b .args .archive .now) (b .pre .2) (c .sizes-in .ensures)
+record-length-requires c κs = let b = c .before .before .before in not-sizes-outside _ (read-sizes (b .args .archive .now) (c .sizes-in .ensures) (b .pre .2))
 
 mul-first : tie.Need-mul-first Inv-loop μ-loop
 mul-first c =
@@ -47,7 +49,7 @@ add-record-start c =
 record-start-requires : tie.Need-record-start-requires Inv-loop μ-loop
 record-start-requires c κs =
     let b = c .before .before .before .before .before .before .before .before .before .before in
-    (read-inside (b .args .archive .now) (b .pre .2) (c .before .before .before .before .before .before .before .sizes-in .ensures), number-fits (b .args .archive .now) (b .args .message .now) (b .pre .2) (b .pre .3) (b .pre .4) (c .before .before .loop .j) (omega (arith, c .before .before .loop .inv .1)) (c .before .before .before .before .before .before .before .sizes-in .ensures) (c .before .before .before .before .before .node-in .ensures .0) (c .place-in .ensures))
+    (not-sizes-outside _ (read-sizes (b .args .archive .now) (c .before .before .before .before .before .before .before .sizes-in .ensures) (b .pre .2)), number-fits (b .args .archive .now) (b .args .message .now) (b .pre .2) (b .pre .3) (b .pre .4) (c .before .before .loop .j) (omega (arith, c .before .before .loop .inv .1)) (c .before .before .before .before .before .before .before .sizes-in .ensures) (c .before .before .before .before .before .node-in .ensures .0) (c .place-in .ensures))
 
 coefficient-in-requires : tie.Need-coefficient-in-requires Inv-loop μ-loop
 coefficient-in-requires c κs =
