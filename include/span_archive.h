@@ -74,4 +74,8 @@ uint8_t span_verdict(const uint8_t *tag_key, size_t tag_key_len, const uint8_t *
 uint8_t span_unmask(size_t n, const uint8_t *id, size_t id_len, const uint8_t *mask_key, size_t mask_key_len, const uint8_t *response,
                     size_t response_len, uint8_t *out, size_t out_len);
 
+/* For every filled place, just once and in any order, 8 times its node plus the place; zeros up to nodes*places bytes. Their number into
+   *count. Refuses 3, 2. */
+uint8_t span_inventory(const uint8_t *archive, size_t archive_len, uint8_t *list, size_t list_len, uint8_t *count);
+
 #endif

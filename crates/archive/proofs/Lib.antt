@@ -8,11 +8,8 @@ pub mod StoreLaws
 pub mod CallLaws
 pub mod LoseLaws
 pub mod BlockLaws
-pub mod EncodeLaws
-pub mod RepairLaws
 pub mod ReadLaws
 pub mod InventoryLaws
 pub mod ListingLaws
-pub mod ProveLaws
 pub mod ProveCheckLaws
-pub mod ResponseLaws
+pub mod CountedLaws

@@ -53,22 +53,22 @@ combined-same z s taken taken′ k agree c =
     (c .0, λ i h. c .1 i h ∙ mixed-vectors k (c .0) _ _ i (λ j l. ap (λ (b : Bool). pick b (rowIn z s j i) 0) (agree j l)))
 
 -- where two agree before k, one does not take k alone
-not-alone : (z : Sizes) (s : List ℕ) (taken taken′ : ℕ → Bool) → Takes z s taken → Takes z s taken′
-    → (k : ℕ) → k < placeCount z → Agree taken taken′ k → taken k ≡ true → taken′ k ≡ false → ⊥
-not-alone z s taken taken′ t t′ k h agree p q =
+not-alone : (z : Sizes) (s : List ℕ) (count : ℕ) (taken taken′ : ℕ → Bool) → Takes z s count taken → Takes z s count taken′
+    → (k : ℕ) → k < count → Agree taken taken′ k → taken k ≡ true → taken′ k ≡ false → ⊥
+not-alone z s count taken taken′ t t′ k h agree p q =
     t .independent k h p (combined-same z s taken′ taken k (λ j l. sym (agree j l)) (t′ .every k h (t .filled k h p) q))
 
-module _ (z : Sizes) (s : List ℕ) (taken taken′ : ℕ → Bool) (t : Takes z s taken) (t′ : Takes z s taken′) where
-  agree-at : (k : ℕ) → k < placeCount z → Agree taken taken′ k → taken k ≡ taken′ k
+module _ (z : Sizes) (s : List ℕ) (count : ℕ) (taken taken′ : ℕ → Bool) (t : Takes z s count taken) (t′ : Takes z s count taken′) where
+  agree-at : (k : ℕ) → k < count → Agree taken taken′ k → taken k ≡ taken′ k
   agree-at k h agree = go (taken k) (taken′ k) refl refl
     where
       go : (x y : Bool) → taken k ≡ x → taken′ k ≡ y → x ≡ y
       go true true p q = refl
-      go true false p q = absurd (not-alone z s taken taken′ t t′ k h agree p q)
-      go false true p q = absurd (not-alone z s taken′ taken t′ t k h (λ j l. sym (agree j l)) q p)
+      go true false p q = absurd (not-alone z s count taken taken′ t t′ k h agree p q)
+      go false true p q = absurd (not-alone z s count taken′ taken t′ t k h (λ j l. sym (agree j l)) q p)
       go false false p q = refl
 
-  agree-below : (k : ℕ) → k ≤ placeCount z → Agree taken taken′ k
+  agree-below : (k : ℕ) → k ≤ count → Agree taken taken′ k
   agree-below zero h j l = absurd (omega arith)
   agree-below (suc k) h j l =
       ⊎-elim
@@ -76,8 +76,8 @@ module _ (z : Sizes) (s : List ℕ) (taken taken′ : ℕ → Bool) (t : Takes z
       (λ (b : j < k). agree-below k (omega arith) j b)
       (eq-or-lt-of-le (le-of-suc-le-suc l))
 
-  pub taken-same : (k : ℕ) → k < placeCount z → taken k ≡ taken′ k
-  taken-same = agree-below (placeCount z) (omega arith)
+  pub taken-same : (k : ℕ) → k < count → taken k ≡ taken′ k
+  taken-same = agree-below count (omega arith)
 
 -- ---- the solution
 

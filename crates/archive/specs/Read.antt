@@ -49,15 +49,16 @@ abbrev pub Combined : Sizes → List ℕ → (ℕ → Bool) → ℕ → Type 0
 Combined z s taken k =
     (c : ℕ → ℕ) × ((i : ℕ) → i < z .m → rowIn z s k i ≡ mixed k c (λ j e. pick (taken j) (rowIn z s j e) 0) i)
 
-pub record Takes (z : Sizes) (s : List ℕ) (taken : ℕ → Bool) : Type 0 where
-  pub filled : (k : ℕ) → k < placeCount z → taken k ≡ true → markAt s k ≡ true
-  pub independent : (k : ℕ) → k < placeCount z → taken k ≡ true → ¬ Combined z s taken k
-  pub every : (k : ℕ) → k < placeCount z → markAt s k ≡ true → taken k ≡ false → Combined z s taken k
+-- of the first `count` places
+pub record Takes (z : Sizes) (s : List ℕ) (count : ℕ) (taken : ℕ → Bool) : Type 0 where
+  pub filled : (k : ℕ) → k < count → taken k ≡ true → markAt s k ≡ true
+  pub independent : (k : ℕ) → k < count → taken k ≡ true → ¬ Combined z s taken k
+  pub every : (k : ℕ) → k < count → markAt s k ≡ true → taken k ≡ false → Combined z s taken k
 
 -- "and solves for the m blocks": of which the file is the first n−2 columns, block after block
 pub record Solved (z : Sizes) (s file : List ℕ) : Type 0 where
   pub taken : ℕ → Bool
-  pub takes : Takes z s taken
+  pub takes : Takes z s (placeCount z) taken
   pub size : length file ≡ fileLength z
   pub bytes : Bytes file
   pub solves : (k e : ℕ) → k < placeCount z → taken k ≡ true → e < z .n - 2

@@ -1,23 +1,35 @@
-// The archive: header, fill marks and records; the owner's and the nodes' operations.
-mod encoding;
+// The archive's bytes: header, fill marks and records; Open, Lose and Inventory. The definitions of all its operations are in specs/.
 mod layout;
 mod listing;
 mod losing;
 mod marks;
 mod opening;
-mod proving;
-mod repairing;
 
+ghost use mathlib.Core.Path.{_≡_};
+ghost use Rattle.archive.specs.Counted.{countedNumber};
 use answer::Refusal;
-pub use encoding::encode;
+pub use layout::bad_archive;
+pub use layout::marked;
+pub use layout::record_length;
+pub use layout::record_start;
+pub use layout::sizes_in;
 pub use listing::inventory;
 pub use losing::lose;
+pub use marks::set_marks;
 pub use opening::open;
-pub use proving::prove;
-pub use repairing::repair;
 
 // What Read and Inventory answer: a number (of filled places consulted, or of filled places), or a refusal.
 pub enum Counted {
     Count(usize),
     Refused(Refusal),
+}
+
+// 0 for a count, else the refusal's number.
+pub fn number(c: Counted) -> u8
+    ensures { λ n. ⌜ n ≡ countedNumber c ⌝ }
+{
+    match c {
+        Counted::Count(k) => 0,
+        Counted::Refused(r) => answer::refusal_number(r),
+    }
 }

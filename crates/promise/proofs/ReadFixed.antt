@@ -32,7 +32,7 @@ module _ (s out file file′ : List ℕ) where
   files-same : {k k′ : ℕ} → ReadAllows s out (Count k) file → ReadAllows s out (Count k′) file′ → file ≡ file′
   files-same w w′ =
       solution-only (sizesOf s) s file file′ (w .2) (n-low s out (w .0)) (w′ .2 .size) (w′ .2 .bytes)
-      (λ i e h t. w′ .2 .solves i e h (sym (taken-same (sizesOf s) s _ _ (w .2 .takes) (w′ .2 .takes) i h) ∙ t))
+      (λ i e h t. w′ .2 .solves i e h (sym (taken-same (sizesOf s) s _ _ _ (w .2 .takes) (w′ .2 .takes) i h) ∙ t))
       (w .1)
 
 pub read-is-fixed : ReadIsFixed

@@ -1,5 +1,6 @@
 // The archive's operations for C and Rust: numbers and byte slices in, document 01's number out (include/span_archive.h).
 ghost use mathlib.Core.Path.{_≡_};
+ghost use Prim.Native.Nat.{_<_};
 ghost use lib.ListN.{length};
 ghost use Rattle.answer.specs.Numbers.{outcomeNumber};
 ghost use Rattle.answer.specs.Refusals.{afterwards};
@@ -14,6 +15,9 @@ ghost use Rattle.archive.specs.Layout.{openAnswer, openOut};
 ghost use Rattle.archive.specs.Calls as Calls;
 ghost use Rattle.archive.specs.Calls.{archiveAnswer, archiveAfter, scratchAfter};
 ghost use Rattle.archive.specs.Prove.{proveAnswer, proveOut};
+ghost use Rattle.archive.specs.Counted.{countedNumber, countedValue, Told};
+ghost use Rattle.archive.specs.Inventory.{InventoryAllows};
+use archive::Counted;
 use field::Inverted;
 
 #[no_mangle]
@@ -139,7 +143,7 @@ pub extern "C" fn span_encode(
     ensures number { λ r. ⌜ r ≡ outcomeNumber (archiveAnswer (now (archive .entry)) (Calls.encode node place (now (file .entry)) (now (padding .entry)) (now («tag_key» .entry)) (now (row .entry)))) ⌝ }
     ensures output { λ _. ⌜ now (archive .exit) ≡ archiveAfter (now (archive .entry)) (Calls.encode node place (now (file .entry)) (now (padding .entry)) (now («tag_key» .entry)) (now (row .entry))) ⌝ }
 {
-    answer::number(archive::encode(archive, node, place, file, padding, tag_key, row))
+    answer::number(coding::encode(archive, node, place, file, padding, tag_key, row))
 }
 
 #[no_mangle]
@@ -162,7 +166,7 @@ pub extern "C" fn span_prove(
     ensures number { λ r. ⌜ r ≡ outcomeNumber (proveAnswer (now (archive .entry)) (now («mask_key» .entry)) (now (auxiliary .entry)) (now (seed .entry)) (now (message .entry)) (now (response .entry))) ⌝ }
     ensures output { λ _. ⌜ now (response .exit) ≡ proveOut (now (archive .entry)) (now («mask_key» .entry)) (now (auxiliary .entry)) (now (seed .entry)) (now (message .entry)) (now (response .entry)) ⌝ }
 {
-    answer::number(archive::prove(archive, mask_key, auxiliary, seed, message, response))
+    answer::number(proving::prove(archive, mask_key, auxiliary, seed, message, response))
 }
 
 #[no_mangle]
@@ -179,5 +183,26 @@ pub extern "C" fn span_repair(
     ensures output { λ _. ⌜ now (archive .exit) ≡ archiveAfter (now (archive .entry)) (Calls.repair target (now (helpers .entry)) q (now (gammas .entry)) (now (thetas .entry)) (length (now (scratch .entry)))) ⌝ }
     ensures blocks { λ _. ⌜ now (scratch .exit) ≡ scratchAfter (now (archive .entry)) target (now (helpers .entry)) q (now (gammas .entry)) (now (thetas .entry)) (now (scratch .entry)) ⌝ }
 {
-    answer::number(archive::repair(archive, target, helpers, q, gammas, thetas, scratch))
+    answer::number(coding::repair(archive, target, helpers, q, gammas, thetas, scratch))
+}
+
+// The number of an answer; its value, where it has one, is written.
+fn tell(answer: Counted, value: &mut u8) -> u8
+    requires { ⌜ countedValue answer 0 < 256 ⌝ }
+    ensures number { λ r. ⌜ r ≡ countedNumber answer ⌝ }
+    ensures output { λ _. ⌜ now (value .exit) ≡ countedValue answer (now (value .entry)) ⌝ }
+{
+    let number = archive::number(answer);
+    if let Counted::Count(k) = answer {
+        *value = (k % 256) as u8;
+        return number;
+    }
+    number
+}
+
+#[no_mangle]
+pub extern "C" fn span_inventory(archive: &[u8], list: &mut [u8], count: &mut u8) -> u8
+    ensures { λ r. ⌜ Told (λ answer. InventoryAllows (now (archive .entry)) (now (list .entry)) answer (now (list .exit))) r (now (count .entry)) (now (count .exit)) ⌝ }
+{
+    tell(archive::inventory(archive, list), count)
 }

@@ -1,0 +1,27 @@
+-- What Inventory and Read count fits a byte. Assumes nothing.
+use Prim.Native.Nat.{ℕ, _<_}
+use mathlib.Core.Path.{_≡_}
+use mathlib.Core.Bool.{Bool, false}
+use mathlib.Core.List.{List}
+use native.Mathlib.Omega.{arith}
+use Rattle.answer.proofs.RefusalLaws.{accepted}
+use Rattle.archive.specs.declared.Counted.{Counted}
+use Rattle.archive.specs.declared.Counted.the-variants.{Count, Refused}
+use Rattle.archive.specs.Counted.{countedValue}
+use Rattle.archive.specs.Layout.{placeCount, sizesOf, markAt, badArchive}
+use Rattle.archive.specs.Read.{howMany, ReadAllows}
+use Rattle.archive.specs.Inventory.{InventoryAllows}
+use Rattle.archive.proofs.GoodLaws.{good-sizes}
+use Rattle.archive.proofs.SizeLaws.{count-low}
+use Rattle.archive.proofs.InventoryLaws.{howMany-most}
+
+few : (s : List ℕ) (p : ℕ → Bool) → badArchive s ≡ false → howMany (placeCount (sizesOf s)) p < 256
+few s p good = omega (arith, howMany-most (placeCount (sizesOf s)) p, count-low _ (good-sizes s good))
+
+pub inventory-low : (s out : List ℕ) (a : Counted) (written : List ℕ) → InventoryAllows s out a written → countedValue a 0 < 256
+inventory-low s out (Count k) written w = rw (w .1 .number) (few s _ (accepted _ _ _ (w .0) .0))
+inventory-low s out (Refused r) written w = omega arith
+
+pub read-low : (s out : List ℕ) (a : Counted) (written : List ℕ) → ReadAllows s out a written → countedValue a 0 < 256
+read-low s out (Count k) written w = omega (arith, w .3 .most, few s (markAt s) (accepted _ _ _ (w .0) .0))
+read-low s out (Refused r) written w = omega arith

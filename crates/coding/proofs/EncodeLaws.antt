@@ -1,0 +1,234 @@
+-- What Encode's answer tells, and what it writes: the block, its tag, and the mark. Assumes nothing.
+use Prim.Native.Nat.{ℕ, _+_, _-_, _*_, _<_, _≤_}
+use mathlib.Core.Path.{_≡_, refl, sym, ap, ap₂, _∙_}
+use mathlib.Core.Bool.{Bool, true, false}
+use mathlib.Core.List.{List, [], _∷_}
+use mathlib.Core.Logic.{⊎-elim}
+use native.Mathlib.Nat.{mul-le-mul}
+use native.Mathlib.Omega.{arith}
+use lib.Dec.{leb}
+use lib.ListN.{length, set, take, drop}
+use borrow.Author.Tests.{lt-ltb, le-ltb, leb-false}
+use Rattle.lists.specs.Lists.{at, put, grid, over, anyOf}
+use Rattle.lists.proofs.TabLaws.{order}
+use Rattle.lists.proofs.AnyLaws.{any-first, any-rest}
+use Rattle.lists.proofs.PutLaws.{length-put, put-below, put-above, put-at, put-more, put-put, put-same, is-put}
+use Rattle.answer.specs.Refusals.{Passed}
+use Rattle.answer.proofs.RefusalLaws.{accepted, same}
+use Rattle.field.specs.Field.{plus}
+use Rattle.field.proofs.SumLaws.{sum-same}
+use Rattle.keystream.specs.declared.stream.Stream.{Stream}
+use Rattle.keystream.specs.Draws.{fresh, drawn, after}
+use Rattle.tag.specs.declared.Sizes.{Sizes}
+use Rattle.tag.specs.Vectors.{product, mixed, added}
+use Rattle.tag.specs.KeyVector.{keyVector, withTag}
+use Rattle.tag.proofs.SizeLaws.{Ranged}
+use Rattle.tag.proofs.StreamLaws.{key-drawn}
+use Rattle.tag.proofs.VectorLaws.{product-same, product-keys}
+use Rattle.tag.proofs.AddedLaws.{length-added, added-at, added-below, added-above}
+use Rattle.archive.specs.Layout.{blockLength, recordLength, recordStart, placeCount, placeNumber, sizesOf, idOf, markAt, withMarks, stored}
+use Rattle.archive.specs.Blocks.{fileLength, paddingLength, source, coded, codedRecord}
+use Rattle.archive.specs.Calls.{encode, answerFor, archiveAnswer, effectFor}
+use Rattle.archive.proofs.SizeLaws.{number-low, count-low, record-fits}
+use Rattle.archive.proofs.GoodLaws.{good-sizes, good-length}
+use Rattle.archive.proofs.BlockLaws.{source-file, coded-row}
+
+-- ---- the answer
+
+module _ (z : Sizes) (R : Ranged z) where
+  pub file-low : fileLength z ≤ 16384
+  file-low = mul-le-mul {n₂ = 16} {m₂ = 1024} (R .m-high) (omega (arith, R .n-high))
+
+  pub place-in : (node place : ℕ) → anyOf (leb (z .nodes) node ∷ leb (z .places) place ∷ []) ≡ false → placeNumber z node place < placeCount z
+  place-in node place e = number-low z R node place (leb-false _ _ (any-first _ _ e)) (leb-false _ _ (any-first _ _ (any-rest _ _ e)))
+
+-- what is known where nothing is refused
+pub record Encodable (z : Sizes) (s : List ℕ) (node place : ℕ) (file padding key row : List ℕ) : Type 0 where
+  pub sizes : Ranged z
+  pub number : placeNumber z node place < 48
+  pub fits : recordStart z (placeNumber z node place) + recordLength z ≤ length s
+  pub file-length : length file ≡ fileLength z
+  pub padding-length : length padding ≡ paddingLength z
+  pub key-length : length key ≡ 32
+  pub row-length : length row ≡ z .m
+
+module _ (s : List ℕ) (node place : ℕ) (file padding key row : List ℕ) where
+  accepted-encode : Passed (archiveAnswer s (encode node place file padding key row)) → Encodable (sizesOf s) s node place file padding key row
+  unfolding archiveAnswer answerFor
+  accepted-encode ok =
+      let z : Sizes = sizesOf s in
+      let a = accepted _ _ _ ok in
+      let l = accepted _ _ _ (a .1) in
+      let l2 = any-rest _ _ (l .0) in
+      let l3 = any-rest _ _ l2 in
+      let R : Ranged z = good-sizes s (a .0) in
+      let low : placeNumber z node place < placeCount z = place-in z R node place (accepted _ _ _ (l .1) .0) in
+      record {
+        sizes = R;
+        number = omega (arith, count-low z R);
+        fits = omega (arith, record-fits z _ low, good-length s (a .0));
+        file-length = same _ _ (any-first _ _ (l .0));
+        padding-length = same _ _ (any-first _ _ l2);
+        key-length = same _ _ (any-first _ _ l3);
+        row-length = same _ _ (any-first _ _ (any-rest _ _ l3));
+      }
+
+  -- for the sizes as they were read
+  pub encodable : {z : Sizes} → z ≡ sizesOf s → Passed (archiveAnswer s (encode node place file padding key row)) → Encodable z s node place file padding key row
+  encodable read ok = rw read (accepted-encode ok)
+
+-- ---- the block
+
+module _ (z : Sizes) (file padding row : List ℕ) where
+  source-padding : (i e : ℕ) → 2 ≤ z .n → e < 2 → source z file padding i (z .n - 2 + e) ≡ at padding (i * 2 + e)
+  unfolding source
+  source-padding i e l h =
+      let q : z .n - 2 + e - (z .n - 2) ≡ e = omega arith in
+      rw (le-ltb (z .n - 2 + e) (z .n - 2) (omega arith), lt-ltb (z .n - 2 + e) (z .n) (omega arith), q)
+
+  -- the combinations that are added, as the code finds their coefficients and vectors
+  abbrev fileMixed : ℕ → ℕ
+  fileMixed = mixed (z .m) (λ i. at row (0 + i * 1)) (λ i e. at file (0 + i * (z .n - 2) + e))
+
+  abbrev paddingMixed : ℕ → ℕ
+  paddingMixed = mixed (z .m) (λ i. at row (0 + i * 1)) (λ i e. at padding (0 + i * 2 + e))
+
+  file-coded : (e : ℕ) → e < z .n - 2 → fileMixed e ≡ coded z file padding (at row) e
+  unfolding coded mixed
+  file-coded e h =
+      sum-same (z .m) _ _ (λ i g.
+      let p : 0 + i * 1 ≡ i = omega arith in
+      let q : 0 + i * (z .n - 2) + e ≡ i * (z .n - 2) + e = omega arith in
+      rw (p, q, source-file z file padding i e h))
+
+  padding-coded : (e : ℕ) → 2 ≤ z .n → e < 2 → paddingMixed e ≡ coded z file padding (at row) (z .n - 2 + e)
+  unfolding coded mixed
+  padding-coded e l h =
+      sum-same (z .m) _ _ (λ i g.
+      let p : 0 + i * 1 ≡ i = omega arith in
+      let q : 0 + i * 2 + e ≡ i * 2 + e = omega arith in
+      rw (p, q, source-padding i e l h))
+
+  -- zeroed, then the file's combination added, then the padding's
+  module _ (start : ℕ) (d : List ℕ) (low : 2 ≤ z .n) (fits : start + blockLength z ≤ length d) where
+    abbrev zeroed : List ℕ
+    zeroed = put (z .n) start (λ i. 0) d
+
+    abbrev filed : List ℕ
+    filed = added (z .n - 2) start fileMixed zeroed
+
+    abbrev padded : List ℕ
+    padded = added 2 (start + (z .n - 2)) paddingMixed filed
+
+    long-zeroed : length zeroed ≡ length d
+    long-zeroed = length-put (z .n) start _ d
+
+    long-filed : length filed ≡ length d
+    long-filed = length-added (z .n - 2) start fileMixed zeroed ∙ long-zeroed
+
+    zero-at : (e : ℕ) → e < z .n → at zeroed (start + e) ≡ 0
+    zero-at e h = put-at (z .n) start _ d e h (omega arith)
+
+    below : (k : ℕ) → k < start → at padded k ≡ at d k
+    below k h =
+        added-below 2 (start + (z .n - 2)) paddingMixed filed k (omega arith) ∙ added-below (z .n - 2) start fileMixed zeroed k h
+        ∙ put-below (z .n) start _ d k h
+
+    above : (k : ℕ) → start + z .n ≤ k → at padded k ≡ at d k
+    above k h =
+        added-above 2 (start + (z .n - 2)) paddingMixed filed k (omega arith) ∙ added-above (z .n - 2) start fileMixed zeroed k (omega arith)
+        ∙ put-above (z .n) start _ d k h
+
+    in-file : (e : ℕ) → e < z .n - 2 → at padded (start + e) ≡ coded z file padding (at row) e
+    in-file e h =
+        added-below 2 (start + (z .n - 2)) paddingMixed filed (start + e) (omega arith)
+        ∙ added-at (z .n - 2) start fileMixed zeroed e h (omega (arith, long-zeroed))
+        ∙ ap (λ (x : ℕ). plus x (fileMixed e)) (zero-at e (omega arith)) ∙ file-coded e h
+
+    in-padding : (e : ℕ) → e < 2 → at padded (start + (z .n - 2 + e)) ≡ coded z file padding (at row) (z .n - 2 + e)
+    in-padding e h =
+        let q : start + (z .n - 2) + e ≡ start + (z .n - 2 + e) = omega arith in
+        let none : at filed (start + (z .n - 2) + e) ≡ 0 =
+        added-above (z .n - 2) start fileMixed zeroed (start + (z .n - 2) + e) (omega arith) ∙ ap (at zeroed) q ∙ zero-at (z .n - 2 + e) (omega arith) in
+        ap (at padded) (sym q) ∙ added-at 2 (start + (z .n - 2)) paddingMixed filed e h (omega (arith, long-filed))
+        ∙ ap (λ (x : ℕ). plus x (paddingMixed e)) none ∙ padding-coded e low h
+
+    front : padded ≡ put (z .n) start (coded z file padding (at row)) d
+    front =
+        is-put (z .n) start _ d padded (length-added 2 (start + (z .n - 2)) paddingMixed filed ∙ long-filed) (omega arith)
+        (λ e h.
+        ⊎-elim (in-file e)
+        (λ (l : z .n - 2 ≤ e). let q : e ≡ z .n - 2 + (e - (z .n - 2)) = omega arith in rw q (in-padding (e - (z .n - 2)) (omega arith)))
+        (order e (z .n - 2)))
+        below above
+
+    -- and then the row stored
+    pub block-written : {a b c w : List ℕ} → ((i : ℕ) → i < z .m → at row i < 256) → a ≡ zeroed → b ≡ added (z .n - 2) start fileMixed a
+        → c ≡ added 2 (start + (z .n - 2)) paddingMixed b → w ≡ put (z .m) (start + z .n) (λ i. at row (0 + i)) c
+        → w ≡ put (blockLength z) start (coded z file padding (at row)) d
+    block-written bytes p q r e =
+        e ∙ ap (put (z .m) (start + z .n) _) (r ∙ ap (added 2 (start + (z .n - 2)) paddingMixed) (q ∙ ap (added (z .n - 2) start fileMixed) p) ∙ front)
+        ∙ put-same (z .m) (start + z .n) _ (λ i. coded z file padding (at row) (z .n + i)) _
+        (λ i h. let o : 0 + i ≡ i = omega arith in rw o (sym (coded-row z file padding (at row) i h (bytes i h))))
+        ∙ put-put (z .n) (z .m) start _ d
+
+-- ---- the record
+
+withTag-block : (len : ℕ) (vector block : ℕ → ℕ) (e : ℕ) → e < len → withTag len vector block e ≡ block e
+unfolding withTag
+withTag-block len vector block e h = rw (lt-ltb e len h)
+
+withTag-tag : (len : ℕ) (vector block : ℕ → ℕ) → withTag len vector block len ≡ product len block vector
+unfolding withTag
+withTag-tag len vector block = rw (le-ltb len len (omega arith))
+
+-- a block is written, and behind it its product with F1's stream
+module _ (len start : ℕ) (block : ℕ → ℕ) (key id d : List ℕ) {k nonce w : List ℕ} {v : Stream} {tag : ℕ} (fits : start + len ≤ length d)
+    (keys : k ≡ key) (ids : nonce ≡ 1 ∷ 0 ∷ 0 ∷ 0 ∷ id) (stream : v ≡ fresh k nonce)
+    (blocks : w ≡ put len start block d)
+    (tags : tag ≡ product len (λ e. at w (start + e)) (λ e. drawn (after e v) .byte)) where
+  drawn-key : (e : ℕ) → drawn (after e v) .byte ≡ keyVector key id e
+  drawn-key e = rw (stream, keys, ids) (key-drawn key id e refl refl .0)
+
+  tag-is : tag ≡ product len block (keyVector key id)
+  tag-is =
+      tags ∙ product-keys len _ _ (keyVector key id) (λ e h. drawn-key e)
+      ∙ product-same len _ block (keyVector key id) (λ e h. rw blocks (put-at len start block d e h fits))
+
+  record-written : set w (start + len) tag ≡ put (len + 1) start (withTag len (keyVector key id) block) d
+  record-written =
+      put-more len start _ d
+      (blocks ∙ put-same len start block _ d (λ e h. sym (withTag-block len (keyVector key id) block e h))) refl
+      (tag-is ∙ sym (withTag-tag len (keyVector key id) block))
+
+-- ---- the archive
+
+length-marks : (mark : ℕ → Bool) (s : List ℕ) → length (withMarks mark s) ≡ length s
+unfolding withMarks
+length-marks mark s = length-put 6 12 _ s
+
+-- marks, then the record
+encode-effect : (z : Sizes) (s : List ℕ) (node place : ℕ) (file padding key row : List ℕ)
+    → put (recordLength z) (recordStart z (placeNumber z node place)) (codedRecord z (keyVector key (idOf s)) file padding (at row))
+    (withMarks (over (placeNumber z node place) 1 (λ i. true) (markAt s)) s)
+    ≡ effectFor z (idOf s) s (encode node place file padding key row)
+unfolding effectFor stored grid
+encode-effect z s node place file padding key row =
+    let first : recordStart z (placeNumber z node place) + 0 * recordLength z ≡ recordStart z (placeNumber z node place) = omega arith in
+    rw first
+
+-- the steps of the code: the sizes read, the marks set, the block written, the tag stored
+pub place-filled : (z : Sizes) (s : List ℕ) (node place : ℕ) (file padding key row : List ℕ) {k nonce u w : List ℕ} {v : Stream} {start tag : ℕ}
+    → z ≡ sizesOf s → Encodable z s node place file padding key row → start ≡ recordStart z (placeNumber z node place)
+    → k ≡ key → nonce ≡ 1 ∷ 0 ∷ 0 ∷ 0 ∷ take 8 (drop 4 s) → v ≡ fresh k nonce
+    → u ≡ withMarks (over (placeNumber z node place) 1 (λ i. true) (markAt s)) s → w ≡ put (blockLength z) start (coded z file padding (at row)) u
+    → tag ≡ product (blockLength z) (λ e. at w (start + e)) (λ e. drawn (after e v) .byte)
+    → set w (start + z .n + z .m) tag ≡ effectFor (sizesOf s) (idOf s) s (encode node place file padding key row)
+unfolding idOf codedRecord
+place-filled z s node place file padding key row {u = u} {start = start} read ok starts keys ids stream marks blocks tags =
+    let end : start + z .n + z .m ≡ start + (z .n + z .m) = omega arith in
+    let long : length u ≡ length s = ap length marks ∙ length-marks _ s in
+    rw end (record-written (blockLength z) start (coded z file padding (at row)) key (idOf s) u (omega (arith, ok .fits)) keys ids stream blocks tags)
+    ∙ ap₂ (λ (from : ℕ) (d : List ℕ). put (recordLength z) from (codedRecord z (keyVector key (idOf s)) file padding (at row)) d) starts marks
+    ∙ encode-effect z s node place file padding key row
+    ∙ ap (λ (x : Sizes). effectFor x (idOf s) s (encode node place file padding key row)) read

@@ -1,0 +1,2 @@
+pub mod EncodeLaws
+pub mod RepairLaws

@@ -1,0 +1,297 @@
+-- What Repair's answer tells, and what it writes: the repair blocks, and the target's marks and records. Assumes nothing.
+use Prim.Native.Nat.{ℕ, _+_, _*_, _/_, _%_, _<_, _≤_}
+use mathlib.Core.Path.{_≡_, sym, ap, ap₂, _∙_}
+use mathlib.Core.Bool.{Bool, true, false, not, _||_}
+use mathlib.Core.List.{List, [], _∷_}
+use native.Mathlib.Nat.{mul-le-mul, mul-le-mul-right, div-add-mod', div-lt-iff-lt-mul}
+use native.Mathlib.Omega.{arith}
+use lib.Dec.{leb}
+use lib.ListN.{length}
+use borrow.Author.Tests.{leb-false}
+use Rattle.lists.specs.Lists.{at, grid, over, anyOf, anyBelow}
+use Rattle.lists.proofs.AnyLaws.{any-first, any-rest, any-below, any-two, any-three, or-false}
+use Rattle.lists.proofs.PutLaws.{grid-same, grid-all, flat-at}
+use Rattle.answer.specs.declared.Outcome.{Outcome}
+use Rattle.answer.specs.declared.Outcome.the-variants.{Done, Refused}
+use Rattle.answer.specs.declared.Refusal.{Refusal}
+use Rattle.answer.specs.declared.Refusal.the-variants.{Size, Length, NoSuchPlace, PlaceEmpty, PlaceFilled}
+use Rattle.answer.specs.Refusals.{Passed, differs, outside}
+use Rattle.answer.proofs.RefusalLaws.{refused, passed, accepted, same, inside, after-done, after-refused}
+use Rattle.field.specs.Field.{times}
+use Rattle.field.proofs.SumLaws.{sum-same, sum-rows}
+use Rattle.tag.specs.declared.Sizes.{Sizes}
+use Rattle.tag.specs.Vectors.{mixed}
+use Rattle.tag.proofs.SizeLaws.{Ranged}
+use Rattle.archive.specs.Layout.{recordLength, archiveLength, recordStart, placeNumber, sizesOf, idOf, markAt, byteIn, badArchive, withMarks, stored}
+use Rattle.archive.specs.Calls.{repair, answerFor, archiveAnswer, coefficient, repairByte, targetByte, effectFor, scratchMade, scratchAfter}
+use Rattle.archive.proofs.SizeLaws.{number-low, count-low, record-fits}
+use Rattle.archive.proofs.GoodLaws.{good-sizes, good-length}
+
+-- ---- sizes
+
+module _ (z : Sizes) (R : Ranged z) where
+  pub number-mark : (node place : ℕ) → node < z .nodes → place < z .places → placeNumber z node place < 48
+  number-mark node place h hp = omega (arith, number-low z R node place h hp, count-low z R)
+
+  pub marks-in : (node : ℕ) → node < z .nodes → node * z .places + z .places ≤ 48
+  marks-in node h = omega (arith, mul-le-mul-right (z .places) h, count-low z R)
+
+  pub record-in : (node place : ℕ) → node < z .nodes → place < z .places → recordStart z (placeNumber z node place) + recordLength z ≤ archiveLength z
+  record-in node place h hp = record-fits z (placeNumber z node place) (number-low z R node place h hp)
+
+-- the records of a node
+pub node-in : (z : Sizes) (node : ℕ) → node < z .nodes → recordStart z (node * z .places) + z .places * recordLength z ≤ archiveLength z
+node-in z node h = omega (arith, mul-le-mul-right (z .places * recordLength z) h)
+
+-- its first records, one more than k
+pub records-in : (z : Sizes) (node k : ℕ) {len n : ℕ} → len ≡ recordLength z → node < z .nodes → k < z .places → n ≡ archiveLength z
+    → recordStart z (node * z .places) + (k + 1) * len ≤ n
+records-in z node k lens h hk long = rw lens (omega (arith, node-in z node h, mul-le-mul-right {m = k + 1} {n = z .places} (recordLength z) (omega arith)))
+
+-- record k of those from number `first` on
+pub record-from : (z : Sizes) (first k : ℕ) {len : ℕ} → len ≡ recordLength z → recordStart z (first + k) ≡ recordStart z first + k * len
+record-from z first k e = rw e (omega arith)
+
+-- ---- the answer
+
+pub blocks-low : (p q : ℕ) → p ≤ 5 → q ≤ 8 → p * q ≤ 40
+blocks-low p q a b = mul-le-mul {n₂ = 5} {m₂ = 8} a b
+
+-- P and Q in their ranges
+pub counts : {p-out q-out : Bool} (p q : ℕ) → p-out ≡ outside 1 5 p → q-out ≡ outside 1 8 q → (p-out || q-out) ≡ false → (p ≤ 5) × (q ≤ 8)
+counts {p-out} {q-out} p q a b e =
+    let w = or-false p-out q-out e in
+    (inside 1 5 p (sym a ∙ w .0) .1, inside 1 8 q (sym b ∙ w .1) .1)
+
+-- the refusals one by one, as the code finds their tests
+module _ (z : Sizes) (filled : ℕ → ℕ → Bool) (target : ℕ) (helpers : List ℕ) (q : ℕ) (gammas thetas : List ℕ) (scratch : ℕ) where
+  abbrev answer : Outcome
+  answer = answerFor z filled (repair target helpers q gammas thetas scratch)
+
+  abbrev wrongLength : ℕ → Bool
+  wrongLength len =
+      (differs (length gammas) (length helpers * q * z .places) || differs (length thetas) (length helpers * q * z .places))
+      || differs scratch (length helpers * q * len)
+
+  module _ {p-out q-out : Bool} (ps : p-out ≡ outside 1 5 (length helpers)) (qs : q-out ≡ outside 1 8 q) where
+    sized : {t : Bool} → (p-out || q-out) ≡ t → anyOf (outside 1 5 (length helpers) ∷ outside 1 8 q ∷ []) ≡ t
+    sized e = rw (← ps, ← qs) (sym (any-two p-out q-out) ∙ e)
+
+    pub refused-size : (p-out || q-out) ≡ true → Refused Size ≡ answer
+    unfolding answerFor
+    refused-size e = sym (refused _ _ (sized e))
+
+    module _ (size : (p-out || q-out) ≡ false) {len : ℕ} (lens : len ≡ recordLength z) where
+      measured : {t : Bool} → wrongLength len ≡ t
+          → anyOf (differs (length gammas) (length helpers * q * z .places) ∷ differs (length thetas) (length helpers * q * z .places)
+          ∷ differs scratch (length helpers * q * recordLength z) ∷ []) ≡ t
+      measured e = rw (← lens) (sym (any-three _ _ _) ∙ e)
+
+      pub refused-length : wrongLength len ≡ true → Refused Length ≡ answer
+      unfolding answerFor
+      refused-length e = sym (passed _ _ (sized size) ∙ refused _ _ (measured e))
+
+      module _ (lengths : wrongLength len ≡ false) {missing : Bool} (ms : missing ≡ anyBelow (length helpers) (λ i. leb (z .nodes) (at helpers i))) where
+        placed : {t : Bool} → (leb (z .nodes) target || missing) ≡ t
+            → anyOf (leb (z .nodes) target ∷ anyBelow (length helpers) (λ i. leb (z .nodes) (at helpers i)) ∷ []) ≡ t
+        placed e = rw (← ms) (sym (any-two (leb (z .nodes) target) missing) ∙ e)
+
+        pub refused-place : (leb (z .nodes) target || missing) ≡ true → Refused NoSuchPlace ≡ answer
+        unfolding answerFor
+        refused-place e = sym (passed _ _ (sized size) ∙ passed _ _ (measured lengths) ∙ refused _ _ (placed e))
+
+        module _ (places : (leb (z .nodes) target || missing) ≡ false) {full : Bool} (fs : full ≡ anyBelow (z .places) (λ k. filled target k)) where
+          pub refused-filled : full ≡ true → Refused PlaceFilled ≡ answer
+          unfolding answerFor
+          refused-filled e =
+              sym (passed _ _ (sized size) ∙ passed _ _ (measured lengths) ∙ passed _ _ (placed places) ∙ refused _ _ (sym fs ∙ e))
+
+          module _ (free : full ≡ false) {empty : Bool}
+              (es : empty ≡ anyBelow (length helpers) (λ i. anyBelow (z .places) (λ l. not (filled (at helpers i) l)))) where
+            pub refused-empty : empty ≡ true → Refused PlaceEmpty ≡ answer
+            unfolding answerFor
+            refused-empty e =
+                sym (passed _ _ (sized size) ∙ passed _ _ (measured lengths) ∙ passed _ _ (placed places) ∙ passed _ _ (sym fs ∙ free)
+                ∙ refused _ _ (sym es ∙ e))
+
+            pub not-refused : empty ≡ false → Done ≡ answer
+            unfolding answerFor
+            not-refused e =
+                sym (passed _ _ (sized size) ∙ passed _ _ (measured lengths) ∙ passed _ _ (placed places) ∙ passed _ _ (sym fs ∙ free)
+                ∙ passed _ _ (sym es ∙ e))
+
+-- what is known where nothing is refused
+pub record Repairable (z : Sizes) (s : List ℕ) (target : ℕ) (helpers : List ℕ) (q : ℕ) (gammas thetas : List ℕ) (scratch : ℕ) : Type 0 where
+  pub good : badArchive s ≡ false
+  pub sizes : Ranged z
+  pub long : length s ≡ archiveLength z
+  pub helpers-high : length helpers ≤ 5
+  pub q-low : 1 ≤ q
+  pub q-high : q ≤ 8
+  pub gammas-length : length gammas ≡ length helpers * q * z .places
+  pub thetas-length : length thetas ≡ length helpers * q * z .places
+  pub scratch-length : scratch ≡ length helpers * q * recordLength z
+  pub target-low : target < z .nodes
+  pub present : anyBelow (length helpers) (λ i. leb (z .nodes) (at helpers i)) ≡ false
+
+module _ (s : List ℕ) (target : ℕ) (helpers : List ℕ) (q : ℕ) (gammas thetas : List ℕ) (scratch : ℕ) where
+  accepted-repair : Passed (archiveAnswer s (repair target helpers q gammas thetas scratch)) → Repairable (sizesOf s) s target helpers q gammas thetas scratch
+  unfolding archiveAnswer answerFor
+  accepted-repair ok =
+      let a = accepted _ _ _ ok in
+      let n = accepted _ _ _ (a .1) in
+      let Q = inside 1 8 q (any-first _ _ (any-rest _ _ (n .0))) in
+      let l = accepted _ _ _ (n .1) in
+      let l2 = any-rest _ _ (l .0) in
+      let p = accepted _ _ _ (l .1) .0 in
+      record {
+        good = a .0;
+        sizes = good-sizes s (a .0);
+        long = good-length s (a .0);
+        helpers-high = inside 1 5 (length helpers) (any-first _ _ (n .0)) .1;
+        q-low = Q .0;
+        q-high = Q .1;
+        gammas-length = same _ _ (any-first _ _ (l .0));
+        thetas-length = same _ _ (any-first _ _ l2);
+        scratch-length = same _ _ (any-first _ _ (any-rest _ _ l2));
+        target-low = leb-false _ _ (any-first _ _ p);
+        present = any-first _ _ (any-rest _ _ p);
+      }
+
+  -- for the sizes as they were read
+  pub repairable : {z : Sizes} → z ≡ sizesOf s → Passed (archiveAnswer s (repair target helpers q gammas thetas scratch))
+      → Repairable z s target helpers q gammas thetas scratch
+  repairable read ok = rw read (accepted-repair ok)
+
+-- ---- the repair blocks
+
+-- what is known where they are made
+pub record Blocks (z : Sizes) (s helpers : List ℕ) (q : ℕ) (gammas scratch : List ℕ) (len : ℕ) : Type 0 where
+  pub sizes : Ranged z
+  pub long : length s ≡ archiveLength z
+  pub len-is : len ≡ recordLength z
+  pub q-low : 1 ≤ q
+  pub count : length helpers * q ≤ 40
+  pub nodes : (i : ℕ) → i < length helpers → at helpers i < z .nodes
+  pub gammas-length : length gammas ≡ length helpers * q * z .places
+  pub scratch-length : length scratch ≡ length helpers * q * len
+
+-- where the coefficients, the records and the block of number t stand; h is its helper
+pub record Turn (z : Sizes) (s gammas scratch : List ℕ) (len t h : ℕ) : Type 0 where
+  pub number : h * z .places < 48
+  pub records : recordStart z (h * z .places) + z .places * len ≤ length s
+  pub first-low : t * z .places ≤ 40 * 8
+  pub coefficients : t * z .places + z .places ≤ length gammas
+  pub start-low : t * len ≤ 40 * 1041
+  pub block : t * len + len ≤ length scratch
+
+pub blocks-known : {z : Sizes} {s : List ℕ} (helpers : List ℕ) (q : ℕ) (gammas scratch : List ℕ) {len : ℕ} → z ≡ sizesOf s → len ≡ recordLength z → badArchive s ≡ false
+    → 1 ≤ q → q ≤ 8 → length helpers ≤ 5 → anyBelow (length helpers) (λ i. leb (sizesOf s .nodes) (at helpers i)) ≡ false
+    → length gammas ≡ length helpers * q * sizesOf s .places → length scratch ≡ length helpers * q * recordLength (sizesOf s) → Blocks z s helpers q gammas scratch len
+blocks-known {s = s} helpers q gammas scratch read lens good low high few present coefficients blocks =
+    record {
+      sizes = rw read (good-sizes s good);
+      long = rw read (good-length s good);
+      len-is = lens;
+      q-low = low;
+      count = blocks-low (length helpers) q few high;
+      nodes = λ i h. rw read (leb-false _ _ (any-below _ _ present i h));
+      gammas-length = rw read coefficients;
+      scratch-length = rw (lens, read) blocks;
+    }
+
+module _ {z : Sizes} {s helpers : List ℕ} {q : ℕ} {gammas scratch : List ℕ} {len : ℕ} (known : Blocks z s helpers q gammas scratch len) where
+  pub helper-in : (t : ℕ) → t < length helpers * q → t / q < length helpers
+  helper-in t l = div-lt-iff-lt-mul {k = q} (known .q-low) .1 l
+
+  pub turn : (t : ℕ) {h : ℕ} → t < length helpers * q → h ≡ at helpers (t / q) → Turn z s gammas scratch len t h
+  turn t {h} l is =
+      let node : h < z .nodes = rw is (known .nodes (t / q) (helper-in t l)) in
+      let R : Ranged z = known .sizes in
+      record {
+        number = omega (arith, number-mark z R h 0 node (R .places-low));
+        records = rw (known .len-is) (omega (arith, node-in z h node, known .long));
+        first-low = mul-le-mul {n₂ = 40} {m₂ = 8} (omega (arith, known .count)) (R .places-high);
+        coefficients = omega (arith, mul-le-mul-right (z .places) l, known .gammas-length);
+        start-low = mul-le-mul {n₂ = 40} {m₂ = 1041} (omega (arith, known .count)) (omega (arith, known .len-is, R .n-high, R .m-high));
+        block = omega (arith, mul-le-mul-right len l, known .scratch-length);
+      }
+
+  -- block t, as the code finds its coefficients and records
+  pub block-made : (t e : ℕ) {first h : ℕ} → h ≡ at helpers (t / q) → first ≡ recordStart z (h * z .places)
+      → mixed (z .places) (λ l. at gammas (t * z .places + l * 1)) (λ l e. at s (first + l * len + e)) e ≡ repairByte z s helpers q gammas (t / q) (t % q) e
+  unfolding mixed repairByte byteIn
+  block-made t e {first} is starts =
+      sum-same (z .places) _ _ (λ l k.
+      let c : t * z .places + l * 1 ≡ (t / q * q + t % q) * z .places + l = rw (div-add-mod' t q) (omega arith) in
+      let v : first + l * len + e ≡ recordStart z (placeNumber z (at helpers (t / q)) l) + e = rw (starts, known .len-is, is) (omega arith) in
+      rw (c, v))
+
+  -- all blocks are made
+  pub blocks-made : {made : List ℕ} {t : ℕ} → z ≡ sizesOf s → t ≡ length helpers * q
+      → made ≡ grid t len 0 (λ i. repairByte z s helpers q gammas (i / q) (i % q)) scratch → made ≡ scratchMade (sizesOf s) s helpers q gammas
+  unfolding scratchMade
+  blocks-made read all made =
+      let lens : len ≡ recordLength (sizesOf s) = known .len-is ∙ ap recordLength read in
+      made ∙ rw (all, read, lens) (grid-all (length helpers * q) (recordLength (sizesOf s)) _ scratch (rw (← lens) (known .scratch-length)))
+
+-- ---- the target's records
+
+-- record k, as the code finds its coefficients and the repair blocks
+pub record-made : (count places len k e : ℕ) (thetas scratch : List ℕ)
+    → mixed count (λ t. at thetas (k + t * places)) (λ t e. at scratch (0 + t * len + e)) e
+    ≡ mixed count (λ t. at thetas (t * places + k)) (λ t e. at scratch (t * len + e)) e
+unfolding mixed
+record-made count places len k e thetas scratch =
+    sum-same count _ _ (λ t h.
+    let c : k + t * places ≡ t * places + k = omega arith in
+    let v : 0 + t * len + e ≡ t * len + e = omega arith in
+    rw (c, v))
+
+module _ (z : Sizes) (s helpers : List ℕ) (q : ℕ) (gammas thetas : List ℕ) where
+  -- the combination of the blocks in a row is that of document 01, helper by helper
+  target-made : (k e : ℕ) {made : List ℕ} → 1 ≤ q → e < recordLength z → made ≡ scratchMade z s helpers q gammas
+      → mixed (length helpers * q) (λ t. at thetas (t * z .places + k)) (λ t e. at made (t * recordLength z + e)) e
+      ≡ targetByte z s helpers q gammas thetas k e
+  unfolding mixed targetByte scratchMade
+  target-made k e {made = made} low he blocks =
+      sum-same (length helpers * q) _ (λ t. times (coefficient z q thetas (t / q) (t % q) k) (repairByte z s helpers q gammas (t / q) (t % q) e))
+      (λ t h.
+      let c : t * z .places + k ≡ (t / q * q + t % q) * z .places + k = rw (div-add-mod' t q) in
+      let b : at made (t * recordLength z + e) ≡ repairByte z s helpers q gammas (t / q) (t % q) e =
+      ap (λ (l : List ℕ). at l (t * recordLength z + e)) blocks ∙ flat-at (length helpers * q) (recordLength z) _ t e h he in
+      ap₂ times (ap (at thetas) c) b)
+      ∙ sum-rows (length helpers) q (λ i j. times (coefficient z q thetas i j k) (repairByte z s helpers q gammas i j e)) low
+
+  -- the marks set, and then the records
+  target-effect : (target scratch : ℕ) → grid (z .places) (recordLength z) (recordStart z (target * z .places)) (targetByte z s helpers q gammas thetas)
+      (withMarks (over (target * z .places) (z .places) (λ i. true) (markAt s)) s)
+      ≡ effectFor z (idOf s) s (repair target helpers q gammas thetas scratch)
+  unfolding effectFor stored
+  target-effect target scratch =
+      let first : placeNumber z target 0 ≡ target * z .places = omega arith in
+      rw first
+
+  -- the steps of the code: the sizes read, the blocks made, the marks set, the records written
+  pub target-filled : (target scratch : ℕ) {made u w : List ℕ} → z ≡ sizesOf s → 1 ≤ q → made ≡ scratchMade (sizesOf s) s helpers q gammas
+      → u ≡ withMarks (over (target * z .places) (z .places) (λ i. true) (markAt s)) s
+      → w ≡ grid (z .places) (recordLength z) (recordStart z (target * z .places))
+      (λ k. mixed (length helpers * q) (λ t. at thetas (t * z .places + k)) (λ t e. at made (t * recordLength z + e))) u
+      → w ≡ effectFor (sizesOf s) (idOf s) s (repair target helpers q gammas thetas scratch)
+  target-filled target scratch {made} read low blocks marks records =
+      records ∙ ap (grid _ _ _ _) marks
+      ∙ grid-same (z .places) (recordLength z) (recordStart z (target * z .places)) _ (targetByte z s helpers q gammas thetas) _
+      (λ k e h he. target-made k e {made = made} low he (rw read blocks))
+      ∙ target-effect target scratch ∙ ap (λ (x : Sizes). effectFor x (idOf s) s (repair target helpers q gammas thetas scratch)) read
+
+-- ---- the scratch buffer after the answer
+
+module _ (s : List ℕ) (target : ℕ) (helpers : List ℕ) (q : ℕ) (gammas thetas scratch : List ℕ) {o : Outcome}
+    (answer : o ≡ archiveAnswer s (repair target helpers q gammas thetas (length scratch))) where
+  pub scratch-written : o ≡ Done → {w : List ℕ} → w ≡ scratchMade (sizesOf s) s helpers q gammas → w ≡ scratchAfter s target helpers q gammas thetas scratch
+  unfolding scratchAfter
+  scratch-written e w = w ∙ sym (after-done _ _ (sym answer ∙ e))
+
+  pub scratch-kept : {r : Refusal} → o ≡ Refused r → scratch ≡ scratchAfter s target helpers q gammas thetas scratch
+  unfolding scratchAfter
+  scratch-kept e = sym (after-refused _ _ (sym answer ∙ e))

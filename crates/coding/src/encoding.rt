@@ -1,0 +1,137 @@
+// Encode: one place is filled from the source blocks.
+ghost use mathlib.Core.Path.{_≡_};
+ghost use mathlib.Core.Bool.{false};
+ghost use Prim.Native.Nat.{_+_, _≤_};
+ghost use lib.ListN.{length};
+ghost use Rattle.lists.specs.Lists.{at, put};
+ghost use Rattle.answer.specs.Refusals.{Passed};
+ghost use Rattle.field.specs.Tables.{PowerTable, LogTable};
+ghost use Rattle.tag.specs.Sizes.{sizesOutside};
+ghost use Rattle.archive.specs.Layout.{blockLength, sizesOf, idOf};
+ghost use Rattle.archive.specs.Blocks.{fileLength, paddingLength, coded};
+ghost use Rattle.archive.specs.Calls as Calls;
+ghost use Rattle.archive.specs.Calls.{archiveAnswer, effectFor, archiveAfter};
+use answer::Outcome;
+use answer::Refusal;
+use archive::bad_archive;
+use archive::marked;
+use archive::record_start;
+use archive::set_marks;
+use archive::sizes_in;
+use keystream::Stream;
+use tag::Sizes;
+
+// The first refusal of Encode.
+fn encode_check(
+    archive: &[u8],
+    node: usize,
+    place: usize,
+    file: &[u8],
+    padding: &[u8],
+    key: &[u8],
+    row: &[u8],
+) -> Outcome
+    ensures { λ r. ⌜ r ≡ archiveAnswer (now (archive .entry)) (Calls.encode node place (now (file .entry)) (now (padding .entry)) (now (key .entry)) (now (row .entry))) ⌝ }
+{
+    if bad_archive(archive) {
+        return Outcome::Refused(Refusal::BadArchive);
+    }
+    let z = sizes_in(archive);
+    if (file.len() != z.m * (z.n - 2))
+        | (padding.len() != 2 * z.m)
+        | (key.len() != 32)
+        | (row.len() != z.m)
+    {
+        return Outcome::Refused(Refusal::Length);
+    }
+    if (z.nodes <= node) | (z.places <= place) {
+        return Outcome::Refused(Refusal::NoSuchPlace);
+    }
+    if marked(archive, node * z.places + place) {
+        return Outcome::Refused(Refusal::PlaceFilled);
+    }
+    Outcome::Done
+}
+
+// The source blocks combined by a row, into the block that starts at `start`.
+fn write_block(
+    powers: &[u8; 510],
+    logs: &[u8; 256],
+    z: Sizes,
+    file: &[u8],
+    padding: &[u8],
+    row: &[u8],
+    archive: &mut [u8],
+    start: usize,
+)
+    requires { ⌜ PowerTable (now powers) × LogTable (now logs) × (sizesOutside z ≡ false) × (length (now file) ≡ fileLength z) × (length (now padding) ≡ paddingLength z) × (length (now row) ≡ z .m) × (start + blockLength z ≤ length (now archive)) ⌝ }
+    ensures { λ _. ⌜ now (archive .exit) ≡ put (blockLength z) start (coded z (now (file .entry)) (now (padding .entry)) (at (now (row .entry)))) (now (archive .entry)) ⌝ }
+{
+    let n = z.n;
+    let m = z.m;
+    lists::zero(archive, start, n);
+    tag::combine(powers, logs, m, row, 0, 1, file, 0, archive, start, n - 2);
+    tag::combine(
+        powers,
+        logs,
+        m,
+        row,
+        0,
+        1,
+        padding,
+        0,
+        archive,
+        start + (n - 2),
+        2,
+    );
+    lists::store(row, 0, archive, start + n, m);
+}
+
+// The mark, the block and its tag.
+fn fill_place(
+    archive: &mut [u8],
+    node: usize,
+    place: usize,
+    file: &[u8],
+    padding: &[u8],
+    key: &[u8],
+    row: &[u8],
+)
+    requires { ⌜ Passed (archiveAnswer (now archive) (Calls.encode node place (now file) (now padding) (now key) (now row))) ⌝ }
+    ensures { λ _. ⌜ now (archive .exit) ≡ effectFor (sizesOf (now (archive .entry))) (idOf (now (archive .entry))) (now (archive .entry)) (Calls.encode node place (now (file .entry)) (now (padding .entry)) (now (key .entry)) (now (row .entry))) ⌝ }
+{
+    let pair = field::tables();
+    let powers = pair.powers;
+    let logs = pair.logs;
+    let z = sizes_in(archive);
+    let k = node * z.places + place;
+    let start = record_start(z, k);
+    let vector = Stream::new(
+        tag::key_array(key),
+        tag::id_nonce(1, 0, 0, 0, &archive[4..12]),
+    );
+    set_marks(archive, k, 1, true);
+    write_block(&powers, &logs, z, file, padding, row, archive, start);
+    let tag = tag::product_drawn(&powers, &logs, archive, start, z.n + z.m, vector);
+    archive[start + z.n + z.m] = tag.total;
+}
+
+// Fills a place of a node (document 01: box) with the source blocks combined by a row, and the tag of that block.
+pub fn encode(
+    archive: &mut [u8],
+    node: usize,
+    place: usize,
+    file: &[u8],
+    padding: &[u8],
+    key: &[u8],
+    row: &[u8],
+) -> Outcome
+    ensures answer { λ r. ⌜ r ≡ archiveAnswer (now (archive .entry)) (Calls.encode node place (now (file .entry)) (now (padding .entry)) (now (key .entry)) (now (row .entry))) ⌝ }
+    ensures output { λ _. ⌜ now (archive .exit) ≡ archiveAfter (now (archive .entry)) (Calls.encode node place (now (file .entry)) (now (padding .entry)) (now (key .entry)) (now (row .entry))) ⌝ }
+{
+    let answer = encode_check(archive, node, place, file, padding, key, row);
+    if let Outcome::Done = answer {
+        fill_place(archive, node, place, file, padding, key, row);
+    }
+    answer
+}

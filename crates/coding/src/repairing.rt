@@ -1,0 +1,238 @@
+// Repair: a node is filled from the records of its helpers.
+ghost use mathlib.Core.Path.{_≡_};
+ghost use mathlib.Core.Bool.{false, not};
+ghost use Prim.Native.Nat.{_+_, _*_, _<_, _≤_};
+ghost use lib.ListN.{length};
+ghost use lib.Dec.{leb};
+ghost use Rattle.lists.specs.Lists.{at, anyBelow, grid};
+ghost use Rattle.answer.specs.Refusals.{Passed};
+ghost use Rattle.tag.specs.Sizes.{sizesOutside};
+ghost use Rattle.tag.specs.Vectors.{mixed};
+ghost use Rattle.field.specs.Tables.{PowerTable, LogTable};
+ghost use Rattle.archive.specs.Layout.{recordLength, archiveLength, recordStart, sizesOf, idOf, filledIn, badArchive};
+ghost use Rattle.archive.specs.Calls as Calls;
+ghost use Rattle.archive.specs.Calls.{archiveAnswer, effectFor, archiveAfter, scratchMade, scratchAfter};
+use answer::Outcome;
+use answer::Refusal;
+use archive::bad_archive;
+use archive::marked;
+use archive::record_length;
+use archive::record_start;
+use archive::set_marks;
+use archive::sizes_in;
+use tag::Sizes;
+
+// Whether a helper is no node.
+fn any_missing(helpers: &[u8], nodes: usize) -> bool
+    ensures { λ r. ⌜ r ≡ anyBelow (length (now (helpers .entry))) (λ i. leb nodes (at (now (helpers .entry)) i)) ⌝ }
+{
+    for i in 0..helpers.len() {
+        if nodes <= lists::widen(helpers[i]) {
+            return true;
+        }
+    }
+    false
+}
+
+// Whether a place of a node is filled.
+fn any_filled(archive: &[u8], z: Sizes, node: usize) -> bool
+    requires { ⌜ (sizesOutside z ≡ false) × (node < z .nodes) × (18 ≤ length (now archive)) ⌝ }
+    ensures { λ r. ⌜ r ≡ anyBelow (z .places) (λ k. filledIn z (now (archive .entry)) node k) ⌝ }
+{
+    let places = z.places;
+    for k in 0..places {
+        if marked(archive, node * places + k) {
+            return true;
+        }
+    }
+    false
+}
+
+// Whether a place of a node is empty.
+fn any_empty(archive: &[u8], z: Sizes, node: usize) -> bool
+    requires { ⌜ (sizesOutside z ≡ false) × (node < z .nodes) × (18 ≤ length (now archive)) ⌝ }
+    ensures { λ r. ⌜ r ≡ anyBelow (z .places) (λ k. not (filledIn z (now (archive .entry)) node k)) ⌝ }
+{
+    let places = z.places;
+    for k in 0..places {
+        if !marked(archive, node * places + k) {
+            return true;
+        }
+    }
+    false
+}
+
+// Whether a place of a helper is empty.
+fn any_helper_empty(archive: &[u8], z: Sizes, helpers: &[u8]) -> bool
+    requires { ⌜ (sizesOutside z ≡ false) × (18 ≤ length (now archive)) × (anyBelow (length (now helpers)) (λ i. leb (z .nodes) (at (now helpers) i)) ≡ false) ⌝ }
+    ensures { λ r. ⌜ r ≡ anyBelow (length (now (helpers .entry))) (λ i. anyBelow (z .places) (λ l. not (filledIn z (now (archive .entry)) (at (now (helpers .entry)) i) l))) ⌝ }
+{
+    for i in 0..helpers.len() {
+        if any_empty(archive, z, lists::widen(helpers[i])) {
+            return true;
+        }
+    }
+    false
+}
+
+// The first refusal of Repair.
+fn repair_check(
+    archive: &[u8],
+    target: usize,
+    helpers: &[u8],
+    q: usize,
+    gammas: &[u8],
+    thetas: &[u8],
+    scratch: &[u8],
+) -> Outcome
+    ensures { λ r. ⌜ r ≡ archiveAnswer (now (archive .entry)) (Calls.repair target (now (helpers .entry)) q (now (gammas .entry)) (now (thetas .entry)) (length (now (scratch .entry)))) ⌝ }
+{
+    if bad_archive(archive) {
+        return Outcome::Refused(Refusal::BadArchive);
+    }
+    let z = sizes_in(archive);
+    let p = helpers.len();
+    if answer::outside(1, 5, p) | answer::outside(1, 8, q) {
+        return Outcome::Refused(Refusal::Size);
+    }
+    let count = p * q * z.places;
+    if (gammas.len() != count)
+        | (thetas.len() != count)
+        | (scratch.len() != p * q * record_length(z))
+    {
+        return Outcome::Refused(Refusal::Length);
+    }
+    if (z.nodes <= target) | any_missing(helpers, z.nodes) {
+        return Outcome::Refused(Refusal::NoSuchPlace);
+    }
+    if any_filled(archive, z, target) {
+        return Outcome::Refused(Refusal::PlaceFilled);
+    }
+    if any_helper_empty(archive, z, helpers) {
+        return Outcome::Refused(Refusal::PlaceEmpty);
+    }
+    Outcome::Done
+}
+
+// The repair blocks with tags, helper by helper.
+fn repair_blocks(
+    powers: &[u8; 510],
+    logs: &[u8; 256],
+    archive: &[u8],
+    helpers: &[u8],
+    q: usize,
+    gammas: &[u8],
+    scratch: &mut [u8],
+)
+    requires { ⌜ PowerTable (now powers) × LogTable (now logs) × (badArchive (now archive) ≡ false) × (1 ≤ q) × (q ≤ 8) × (length (now helpers) ≤ 5) × (anyBelow (length (now helpers)) (λ i. leb (sizesOf (now archive) .nodes) (at (now helpers) i)) ≡ false) × (length (now gammas) ≡ length (now helpers) * q * sizesOf (now archive) .places) × (length (now scratch) ≡ length (now helpers) * q * recordLength (sizesOf (now archive))) ⌝ }
+    ensures { λ _. ⌜ now (scratch .exit) ≡ scratchMade (sizesOf (now (archive .entry))) (now (archive .entry)) (now (helpers .entry)) q (now (gammas .entry)) ⌝ }
+{
+    let z = sizes_in(archive);
+    let places = z.places;
+    let len = record_length(z);
+    for t in 0..helpers.len() * q {
+        let first = record_start(z, lists::widen(helpers[t / q]) * places);
+        lists::zero(scratch, t * len, len);
+        tag::combine(
+            powers,
+            logs,
+            places,
+            gammas,
+            t * places,
+            1,
+            archive,
+            first,
+            scratch,
+            t * len,
+            len,
+        );
+    }
+}
+
+// The target's records: all repair blocks combined by the thetas of each place.
+fn target_records(
+    powers: &[u8; 510],
+    logs: &[u8; 256],
+    z: Sizes,
+    scratch: &[u8],
+    count: usize,
+    thetas: &[u8],
+    archive: &mut [u8],
+    target: usize,
+)
+    requires { ⌜ PowerTable (now powers) × LogTable (now logs) × (sizesOutside z ≡ false) × (count ≤ 40) × (target < z .nodes) × (length (now scratch) ≡ count * recordLength z) × (length (now thetas) ≡ count * z .places) × (length (now archive) ≡ archiveLength z) ⌝ }
+    ensures { λ _. ⌜ now (archive .exit) ≡ grid (z .places) (recordLength z) (recordStart z (target * z .places)) (λ k. mixed count (λ t. at (now (thetas .entry)) (t * z .places + k)) (λ t e. at (now (scratch .entry)) (t * recordLength z + e))) (now (archive .entry)) ⌝ }
+{
+    let places = z.places;
+    let len = record_length(z);
+    for k in 0..places {
+        let start = record_start(z, target * places + k);
+        lists::zero(archive, start, len);
+        tag::combine(
+            powers,
+            logs,
+            count,
+            thetas,
+            k,
+            places,
+            scratch,
+            0,
+            archive,
+            start,
+            len,
+        );
+    }
+}
+
+// The repair blocks, and then the target's marks and records.
+fn fill_target(
+    archive: &mut [u8],
+    target: usize,
+    helpers: &[u8],
+    q: usize,
+    gammas: &[u8],
+    thetas: &[u8],
+    scratch: &mut [u8],
+)
+    requires { ⌜ Passed (archiveAnswer (now archive) (Calls.repair target (now helpers) q (now gammas) (now thetas) (length (now scratch)))) ⌝ }
+    ensures blocks { λ _. ⌜ now (scratch .exit) ≡ scratchMade (sizesOf (now (archive .entry))) (now (archive .entry)) (now (helpers .entry)) q (now (gammas .entry)) ⌝ }
+    ensures output { λ _. ⌜ now (archive .exit) ≡ effectFor (sizesOf (now (archive .entry))) (idOf (now (archive .entry))) (now (archive .entry)) (Calls.repair target (now (helpers .entry)) q (now (gammas .entry)) (now (thetas .entry)) (length (now (scratch .entry)))) ⌝ }
+{
+    let pair = field::tables();
+    let powers = pair.powers;
+    let logs = pair.logs;
+    let z = sizes_in(archive);
+    repair_blocks(&powers, &logs, archive, helpers, q, gammas, scratch);
+    set_marks(archive, target * z.places, z.places, true);
+    target_records(
+        &powers,
+        &logs,
+        z,
+        scratch,
+        helpers.len() * q,
+        thetas,
+        archive,
+        target,
+    );
+}
+
+// Fills the places of a node (document 01: box) from its helpers' records; scratch then holds the repair blocks.
+pub fn repair(
+    archive: &mut [u8],
+    target: usize,
+    helpers: &[u8],
+    q: usize,
+    gammas: &[u8],
+    thetas: &[u8],
+    scratch: &mut [u8],
+) -> Outcome
+    ensures answer { λ r. ⌜ r ≡ archiveAnswer (now (archive .entry)) (Calls.repair target (now (helpers .entry)) q (now (gammas .entry)) (now (thetas .entry)) (length (now (scratch .entry)))) ⌝ }
+    ensures output { λ _. ⌜ now (archive .exit) ≡ archiveAfter (now (archive .entry)) (Calls.repair target (now (helpers .entry)) q (now (gammas .entry)) (now (thetas .entry)) (length (now (scratch .entry)))) ⌝ }
+    ensures blocks { λ _. ⌜ now (scratch .exit) ≡ scratchAfter (now (archive .entry)) target (now (helpers .entry)) q (now (gammas .entry)) (now (thetas .entry)) (now (scratch .entry)) ⌝ }
+{
+    let answer = repair_check(archive, target, helpers, q, gammas, thetas, scratch);
+    if let Outcome::Done = answer {
+        fill_target(archive, target, helpers, q, gammas, thetas, scratch);
+    }
+    answer
+}

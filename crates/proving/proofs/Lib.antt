@@ -1,0 +1,2 @@
+pub mod ProveLaws
+pub mod ResponseLaws

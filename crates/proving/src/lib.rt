@@ -1,0 +1,169 @@
+// Prove: the response to a challenge.
+ghost use mathlib.Core.Path.{_≡_};
+ghost use mathlib.Core.Bool.{false, not};
+ghost use Prim.Native.Nat.{ℕ, _+_, _-_, _<_, _≤_};
+ghost use lib.ListN.{length};
+ghost use Rattle.lists.specs.Lists.{at, anyBelow};
+ghost use Rattle.answer.specs.Refusals.{Passed};
+ghost use Rattle.field.specs.Tables.{PowerTable, LogTable};
+ghost use Rattle.mask.specs.Response.{responseLength};
+ghost use Rattle.audit.specs.Challenge.{challengeOf, malformedChallenge};
+ghost use Rattle.audit.specs.Verdict.{notThere};
+ghost use Rattle.archive.specs.Layout.{recordLength, sizesOf, idOf, filledIn, badArchive};
+ghost use Rattle.archive.specs.Prove.{proveAnswer, responseFor, namedByte, provedFor, proveOut};
+use answer::Outcome;
+use answer::Refusal;
+use archive::bad_archive;
+use archive::marked;
+use archive::record_length;
+use archive::record_start;
+use archive::sizes_in;
+
+// Whether a named place is empty.
+fn any_named_empty(archive: &[u8], message: &[u8]) -> bool
+    requires { ⌜ (badArchive (now archive) ≡ false) × (malformedChallenge (now message) ≡ false) × (notThere (sizesOf (now archive)) (challengeOf (now message)) ≡ false) ⌝ }
+    ensures { λ r. ⌜ r ≡ anyBelow (length (challengeOf (now (message .entry)) .places)) (λ j. not (filledIn (sizesOf (now (archive .entry))) (now (archive .entry)) (challengeOf (now (message .entry)) .node) (at (challengeOf (now (message .entry)) .places) j))) ⌝ }
+{
+    let z = sizes_in(archive);
+    let first = audit::node_in(message) * z.places;
+    for j in 0..audit::count_in(message) {
+        if !marked(archive, first + audit::place_in(message, j)) {
+            return true;
+        }
+    }
+    false
+}
+
+// The first refusal of Prove.
+fn prove_check(
+    archive: &[u8],
+    mask_key: &[u8],
+    elements: &[u8],
+    seed: &[u8],
+    message: &[u8],
+    response: &[u8],
+) -> Outcome
+    ensures { λ r. ⌜ r ≡ proveAnswer (now (archive .entry)) (now («mask_key» .entry)) (now (elements .entry)) (now (seed .entry)) (now (message .entry)) (now (response .entry)) ⌝ }
+{
+    if bad_archive(archive) {
+        return Outcome::Refused(Refusal::BadArchive);
+    }
+    if audit::malformed(message) {
+        return Outcome::Refused(Refusal::Malformed);
+    }
+    let z = sizes_in(archive);
+    if (mask_key.len() != 32)
+        | (elements.len() != z.n - 1)
+        | (seed.len() != 11)
+        | (response.len() != z.n + 14)
+    {
+        return Outcome::Refused(Refusal::Length);
+    }
+    if audit::not_there(z, message) {
+        return Outcome::Refused(Refusal::NoSuchPlace);
+    }
+    if any_named_empty(archive, message) {
+        return Outcome::Refused(Refusal::PlaceEmpty);
+    }
+    Outcome::Done
+}
+
+// The records of the named places, blocks and tags, combined by the challenge.
+fn named_record(powers: &[u8; 510], logs: &[u8; 256], archive: &[u8], message: &[u8]) -> [u8; 1041]
+    requires { ⌜ PowerTable (now powers) × LogTable (now logs) × (badArchive (now archive) ≡ false) × (malformedChallenge (now message) ≡ false) × (notThere (sizesOf (now archive)) (challengeOf (now message)) ≡ false) ⌝ }
+    ensures { λ r. ⌜ ((e : ℕ) → e < recordLength (sizesOf (now (archive .entry))) → at r e ≡ namedByte (sizesOf (now (archive .entry))) (now (archive .entry)) (challengeOf (now (message .entry))) e) ⌝ }
+{
+    let z = sizes_in(archive);
+    let len = record_length(z);
+    let first = audit::node_in(message) * z.places;
+    let mut record = [0u8; 1041];
+    for j in 0..audit::count_in(message) {
+        let start = record_start(z, first + audit::place_in(message, j));
+        tag::add_multiple(
+            powers,
+            logs,
+            audit::coefficient_in(message, j),
+            archive,
+            start,
+            &mut record,
+            0,
+            len,
+        );
+    }
+    record
+}
+
+// The response that a combined record makes, part by part.
+fn write_parts(
+    node: usize,
+    n: usize,
+    m: usize,
+    combined: &[u8],
+    key: [u8; 32],
+    id: &[u8],
+    elements: &[u8],
+    seed: &[u8],
+    response: &mut [u8],
+)
+    requires { ⌜ (node < 8) × (3 ≤ n) × (n ≤ 1024) × (m ≤ 16) × (length (now combined) ≡ 1041) × (length (now id) ≡ 8) × (length (now elements) ≡ n - 1) × (length (now seed) ≡ 11) × (length (now response) ≡ responseLength n) ⌝ }
+    ensures { λ _. ⌜ now (response .exit) ≡ responseFor n (now (id .entry)) key (now (elements .entry)) (now (seed .entry)) node (at (now (combined .entry))) (at (now (combined .entry)) (n + m)) ⌝ }
+{
+    response[0] = mask::head_byte(node);
+    lists::store(combined, 0, response, 1, n - 2);
+    mask::add_mask(key, id, seed, n, response, 1);
+    lists::store(seed, 0, response, n - 1, 11);
+    response[n + 10] = mask::mask_sum(key, seed, n, elements);
+    lists::store(combined, n - 2, response, n + 11, 2);
+    response[n + 13] = combined[n + m];
+}
+
+// The combined record of the named places under the mask of the seed.
+fn write_response(
+    archive: &[u8],
+    mask_key: &[u8],
+    elements: &[u8],
+    seed: &[u8],
+    message: &[u8],
+    response: &mut [u8],
+)
+    requires { ⌜ Passed (proveAnswer (now archive) (now «mask_key») (now elements) (now seed) (now message) (now response)) ⌝ }
+    ensures { λ _. ⌜ now (response .exit) ≡ provedFor (sizesOf (now (archive .entry))) (idOf (now (archive .entry))) (now (archive .entry)) (now («mask_key» .entry)) (now (elements .entry)) (now (seed .entry)) (challengeOf (now (message .entry))) ⌝ }
+{
+    let pair = field::tables();
+    let powers = pair.powers;
+    let logs = pair.logs;
+    let z = sizes_in(archive);
+    let combined = named_record(&powers, &logs, archive, message);
+    let node = audit::node_in(message);
+    let key = tag::key_array(mask_key);
+    write_parts(
+        node,
+        z.n,
+        z.m,
+        &combined,
+        key,
+        &archive[4..12],
+        elements,
+        seed,
+        response,
+    );
+}
+
+// The response to a challenge, with the mask of a seed over its block.
+pub fn prove(
+    archive: &[u8],
+    mask_key: &[u8],
+    elements: &[u8],
+    seed: &[u8],
+    message: &[u8],
+    response: &mut [u8],
+) -> Outcome
+    ensures answer { λ r. ⌜ r ≡ proveAnswer (now (archive .entry)) (now («mask_key» .entry)) (now (elements .entry)) (now (seed .entry)) (now (message .entry)) (now (response .entry)) ⌝ }
+    ensures output { λ _. ⌜ now (response .exit) ≡ proveOut (now (archive .entry)) (now («mask_key» .entry)) (now (elements .entry)) (now (seed .entry)) (now (message .entry)) (now (response .entry)) ⌝ }
+{
+    let answer = prove_check(archive, mask_key, elements, seed, message, response);
+    if let Outcome::Done = answer {
+        write_response(archive, mask_key, elements, seed, message, response);
+    }
+    answer
+}
