@@ -2,13 +2,7 @@
    n = 1,024, and whether the results agree. Each pair is timed in turn, ROUNDS times, and the best round of each counts. PAD bytes
    shift the code: short loops run up to three times as long where they lie badly, on either side, so bench/run tries several
    places. */
-#include <stddef.h>
-#include <stdint.h>
-#include <stdio.h>
-#include <string.h>
-#include <time.h>
-
-#include "../include/span_archive.h"
+#include "plain.h"
 
 uint8_t loops_product(const uint8_t *a, size_t a_len, const uint8_t *b, size_t b_len);
 uint8_t loops_draw(const uint8_t *key, const uint8_t *nonce, size_t n);
@@ -17,30 +11,9 @@ uint8_t loops_draw(const uint8_t *key, const uint8_t *nonce, size_t n);
 #define SKIP(n) __asm__(".text\n.skip " TEXT(n) "\n")
 SKIP(PAD);
 
-enum { ROUNDS = 7, VECTOR = 4096, REPEATS = 2048, BYTES = 1 << 22, N = 1024 };
+enum { VECTOR = 4096, REPEATS = 2048, BYTES = 1 << 22 };
 
-#define ROTL(x, k) (((x) << (k)) | ((x) >> (32 - (k))))
-#define QUARTER(a, b, c, d) \
-    a += b, d = ROTL(d ^ a, 16), c += d, b = ROTL(b ^ c, 12), a += b, d = ROTL(d ^ a, 8), c += d, b = ROTL(b ^ c, 7)
-
-static void block(const uint32_t in[16], uint8_t out[64]) {
-    uint32_t x[16];
-    memcpy(x, in, sizeof x);
-    for (int i = 0; i < 10; i++) {
-        QUARTER(x[0], x[4], x[8], x[12]);
-        QUARTER(x[1], x[5], x[9], x[13]);
-        QUARTER(x[2], x[6], x[10], x[14]);
-        QUARTER(x[3], x[7], x[11], x[15]);
-        QUARTER(x[0], x[5], x[10], x[15]);
-        QUARTER(x[1], x[6], x[11], x[12]);
-        QUARTER(x[2], x[7], x[8], x[13]);
-        QUARTER(x[3], x[4], x[9], x[14]);
-    }
-    for (int i = 0; i < 16; i++) {
-        uint32_t w = x[i] + in[i];
-        memcpy(out + 4 * i, &w, 4);
-    }
-}
+void archive(const uint8_t *key);
 
 __attribute__((noipa)) static uint8_t c_draw(const uint8_t *key, const uint8_t *nonce, size_t n) {
     uint32_t s[16] = {0x61707865, 0x3320646e, 0x79622d32, 0x6b206574};
@@ -59,42 +32,10 @@ __attribute__((noipa)) static uint8_t c_draw(const uint8_t *key, const uint8_t *
     return total;
 }
 
-static uint8_t powers[510], logs[256];
-
-static void make_tables(void) {
-    unsigned x = 1;
-    for (int i = 0; i < 255; i++) {
-        powers[i] = powers[i + 255] = (uint8_t)x;
-        logs[x] = (uint8_t)i;
-        x ^= x << 1;
-        if (x & 0x100) x ^= 0x11b;
-    }
-}
-
-static inline uint8_t c_multiply(uint8_t a, uint8_t b) {
-    if (a == 0 || b == 0) return 0;
-    return powers[logs[a] + logs[b]];
-}
-
 __attribute__((noipa)) static uint8_t c_product(const uint8_t *a, const uint8_t *b, size_t n) {
     uint8_t total = 0;
     for (size_t i = 0; i < n; i++) total ^= c_multiply(a[i], b[i]);
     return total;
-}
-
-/* The first 64 times count bytes of a stream. */
-static void c_fill(const uint8_t *key, const uint8_t *nonce, uint8_t *out, size_t count) {
-    uint32_t s[16] = {0x61707865, 0x3320646e, 0x79622d32, 0x6b206574};
-    memcpy(s + 4, key, 32);
-    memcpy(s + 13, nonce, 12);
-    for (size_t j = 0; j < count; j++, s[12]++) block(s, out + 64 * j);
-}
-
-/* Mask row i, from 0. */
-static void c_row(const uint8_t *key, const uint8_t *id, size_t i, uint8_t *row) {
-    uint8_t nonce[12] = {2, 0, (uint8_t)((i + 1) >> 8), (uint8_t)(i + 1)};
-    memcpy(nonce + 4, id, 8);
-    c_fill(key, nonce, row, N / 64);
 }
 
 __attribute__((noipa)) static void c_setup(const uint8_t *tag_key, const uint8_t *mask_key, const uint8_t *id, uint8_t *auxiliary) {
@@ -119,25 +60,6 @@ __attribute__((noipa)) static void c_unmask(const uint8_t *id, const uint8_t *ma
         for (size_t e = 0; e < N - 2; e++) out[e] ^= c_multiply(coefficients[i], row[e]);
     }
 }
-
-static double now(void) {
-    struct timespec t;
-    clock_gettime(CLOCK_MONOTONIC, &t);
-    return t.tv_sec * 1e9 + t.tv_nsec;
-}
-
-static void report(const char *what, double rattle, double c, double units, int same) {
-    printf("%s %.3f %.3f %s\n", what, rattle / units, c / units, same ? "equal" : "DIFFERENT");
-}
-
-/* One timed call of each side; the best counts. */
-#define TIMED(best, call)             \
-    do {                              \
-        double t = now();             \
-        call;                         \
-        t = now() - t;                \
-        if (t < best) best = t;       \
-    } while (0)
 
 static void masks(const uint8_t *key) {
     static uint8_t id[8] = {1, 2, 3, 4, 5, 6, 7, 8}, response[N + 14] = {0x24}, x[N - 1], y[N - 1];
@@ -189,5 +111,6 @@ int main(void) {
     report("keystream-byte", draw[0], draw[1], BYTES, same_draw);
     report("product", product[0], product[1], (double)VECTOR * REPEATS, same_product);
     masks(key);
+    archive(key);
     return 0;
 }

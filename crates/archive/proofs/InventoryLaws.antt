@@ -26,12 +26,12 @@ unfolding howMany
 howMany-most zero f = omega arith
 howMany-most (suc n) f = omega (arith, howMany-most n f, bit-low (f n))
 
-howMany-none : (n : ℕ) (f : ℕ → Bool) → ((i : ℕ) → i < n → f i ≡ false) → howMany n f ≡ 0
+pub howMany-none : (n : ℕ) (f : ℕ → Bool) → ((i : ℕ) → i < n → f i ≡ false) → howMany n f ≡ 0
 unfolding howMany
 howMany-none zero f h = refl
 howMany-none (suc n) f h = rw (howMany-none n f (λ i l. h i (omega arith)), h n (omega arith))
 
-howMany-split : (a b : ℕ) (f : ℕ → Bool) → howMany (a + b) f ≡ howMany a f + howMany b (λ i. f (a + i))
+pub howMany-split : (a b : ℕ) (f : ℕ → Bool) → howMany (a + b) f ≡ howMany a f + howMany b (λ i. f (a + i))
 unfolding howMany
 howMany-split a zero f = simp add-zero
 howMany-split a (suc b) f = rw (add-suc, howMany-split a b f) (omega arith)

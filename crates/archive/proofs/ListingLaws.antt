@@ -33,11 +33,11 @@ count-read e = ap (λ (z : Sizes). z .nodes * z .places) e
 pub parts-low : (z : Sizes) → Ranged z → (k : ℕ) {places : ℕ} → places ≡ z .places → k < placeCount z → (k / places < 6) × (k % places < 8)
 parts-low z R k e low = rw e (omega (arith, node-of z R k low, R .nodes-high), omega (arith, place-of z R k, R .places-high))
 
-howMany-more : (n : ℕ) (p : ℕ → Bool) → howMany (n + 1) p ≡ howMany n p + bit (p n)
+pub howMany-more : (n : ℕ) (p : ℕ → Bool) → howMany (n + 1) p ≡ howMany n p + bit (p n)
 unfolding howMany
 howMany-more n p = rw add-one
 
-howMany-zero : (p : ℕ → Bool) → howMany 0 p ≡ 0
+pub howMany-zero : (p : ℕ → Bool) → howMany 0 p ≡ 0
 unfolding howMany
 howMany-zero p = refl
 

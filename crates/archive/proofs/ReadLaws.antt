@@ -44,11 +44,11 @@ blind-same z f g r r′ marks rows w =
 
 -- ---- the places taken
 
-abbrev Agree : (ℕ → Bool) → (ℕ → Bool) → ℕ → Type 0
+abbrev pub Agree : (ℕ → Bool) → (ℕ → Bool) → ℕ → Type 0
 Agree taken taken′ k = (j : ℕ) → j < k → taken j ≡ taken′ j
 
 -- a combination uses only the places before
-combined-same : (z : Sizes) (s : List ℕ) (taken taken′ : ℕ → Bool) (k : ℕ) → Agree taken taken′ k → Combined z s taken k → Combined z s taken′ k
+pub combined-same : (z : Sizes) (s : List ℕ) (taken taken′ : ℕ → Bool) (k : ℕ) → Agree taken taken′ k → Combined z s taken k → Combined z s taken′ k
 combined-same z s taken taken′ k agree c =
     (c .0, λ i h. c .1 i h ∙ mixed-vectors k (c .0) _ _ i (λ j l. ap (λ (b : Bool). pick b (rowIn z s j i) 0) (agree j l)))
 
@@ -79,6 +79,26 @@ module _ (z : Sizes) (s : List ℕ) (count : ℕ) (taken taken′ : ℕ → Bool
   pub taken-same : (k : ℕ) → k < count → taken k ≡ taken′ k
   taken-same = agree-below count (omega arith)
 
+-- a vector orthogonal to the rows taken is orthogonal to those filled
+module _ (z : Sizes) (s : List ℕ) (count : ℕ) (taken : ℕ → Bool) (takes : Takes z s count taken) (v : ℕ → ℕ)
+    (zeros : (k : ℕ) → k < count → taken k ≡ true → product (z .m) (rowIn z s k) v ≡ 0) where
+  part-zero : (k : ℕ) → k < count → product (z .m) (λ i. pick (taken k) (rowIn z s k i) 0) v ≡ 0
+  part-zero k h = go (taken k) refl
+    where
+      go : (x : Bool) → taken k ≡ x → product (z .m) (λ i. pick x (rowIn z s k i) 0) v ≡ 0
+      go true q = zeros k h q
+      go false q = product-zero (z .m) v
+
+  pub filled-zero : (k : ℕ) → k < count → markAt s k ≡ true → product (z .m) (rowIn z s k) v ≡ 0
+  filled-zero k h f = go (taken k) refl
+    where
+      go : (x : Bool) → taken k ≡ x → product (z .m) (rowIn z s k) v ≡ 0
+      go true q = zeros k h q
+      go false q =
+          let c : Combined z s taken k = takes .every k h f q in
+          product-same (z .m) _ _ v (c .1) ∙ product-mixed (z .m) k (c .0) _ v
+          ∙ sum-zero k _ (λ j l. ap (times (c .0 j)) (part-zero j (omega arith)) ∙ times-zero (c .0 j))
+
 -- ---- the solution
 
 equal : (a b : ℕ) → bitXor a b ≡ 0 → a ≡ b
@@ -100,22 +120,8 @@ module _ (z : Sizes) (s out file : List ℕ) (w : Solved z s out) (low : 3 ≤ z
   gap-taken : (e : ℕ) → e < z .n - 2 → (k : ℕ) → k < placeCount z → w .taken k ≡ true → product (z .m) (rowIn z s k) (gap e) ≡ 0
   gap-taken e he k h t = product-right (z .m) _ _ _ ∙ ap₂ plus (w .solves k e h t he) (fits k e h t he) ∙ xor-self (byteIn z s k e)
 
-  gap-part : (e : ℕ) → e < z .n - 2 → (k : ℕ) → k < placeCount z → product (z .m) (λ i. pick (w .taken k) (rowIn z s k i) 0) (gap e) ≡ 0
-  gap-part e he k h = go (w .taken k) refl
-    where
-      go : (x : Bool) → w .taken k ≡ x → product (z .m) (λ i. pick x (rowIn z s k i) 0) (gap e) ≡ 0
-      go true q = gap-taken e he k h q
-      go false q = product-zero (z .m) (gap e)
-
   gap-filled : (e : ℕ) → e < z .n - 2 → (k : ℕ) → k < placeCount z → markAt s k ≡ true → product (z .m) (rowIn z s k) (gap e) ≡ 0
-  gap-filled e he k h f = go (w .taken k) refl
-    where
-      go : (x : Bool) → w .taken k ≡ x → product (z .m) (rowIn z s k) (gap e) ≡ 0
-      go true q = gap-taken e he k h q
-      go false q =
-          let c : Combined z s (w .taken) k = w .takes .every k h f q in
-          product-same (z .m) _ _ (gap e) (c .1) ∙ product-mixed (z .m) k (c .0) _ (gap e)
-          ∙ sum-zero k _ (λ j l. ap (times (c .0 j)) (gap-part e he j (omega arith)) ∙ times-zero (c .0 j))
+  gap-filled e he = filled-zero z s (placeCount z) (w .taken) (w .takes) (gap e) (gap-taken e he)
 
   gap-blind : (e : ℕ) → e < z .n - 2 → (i : ℕ) → i < z .m → gap e i ≢ 0 → Blind z (markAt s) (rowIn z s)
   gap-blind e he i h q =

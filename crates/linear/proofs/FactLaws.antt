@@ -27,7 +27,7 @@ product-lt n u x = sum-lt 8 n _ (λ i l. times-lt (u i) (x i))
 
 -- ---- products with unit vectors
 
-by-unit : (n q : ℕ) (v : Vec) → q < n → v q < 256 → product n v (unitAt q) ≡ v q
+pub by-unit : (n q : ℕ) (v : Vec) → q < n → v q < 256 → product n v (unitAt q) ≡ v q
 unfolding product
 by-unit n q v l h =
     sum-one n q (λ c. times (v c) (unitAt q c)) l (λ c b d. ap (times (v c)) (sel-other c q 1 0 d) ∙ times-zero (v c))

@@ -4,3 +4,5 @@ pub mod FactLaws
 pub mod StepLaws
 pub mod ArrayLaws
 pub mod RowLaws
+pub mod SameLaws
+pub mod LastLaws

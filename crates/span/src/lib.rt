@@ -17,6 +17,7 @@ ghost use Rattle.archive.specs.Calls.{archiveAnswer, archiveAfter, scratchAfter
 ghost use Rattle.archive.specs.Prove.{proveAnswer, proveOut};
 ghost use Rattle.archive.specs.Counted.{countedNumber, countedValue, Told};
 ghost use Rattle.archive.specs.Inventory.{InventoryAllows};
+ghost use Rattle.archive.specs.Read.{ReadAllows};
 use archive::Counted;
 use field::Inverted;
 
@@ -205,4 +206,11 @@ pub extern "C" fn span_inventory(archive: &[u8], list: &mut [u8], count: &mut u8
     ensures { λ r. ⌜ Told (λ answer. InventoryAllows (now (archive .entry)) (now (list .entry)) answer (now (list .exit))) r (now (count .entry)) (now (count .exit)) ⌝ }
 {
     tell(archive::inventory(archive, list), count)
+}
+
+#[no_mangle]
+pub extern "C" fn span_read(archive: &[u8], file: &mut [u8], consulted: &mut u8) -> u8
+    ensures { λ r. ⌜ Told (λ answer. ReadAllows (now (archive .entry)) (now (file .entry)) answer (now (file .exit))) r (now (consulted .entry)) (now (consulted .exit)) ⌝ }
+{
+    tell(reading::read(archive, file), consulted)
 }

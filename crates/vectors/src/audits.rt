@@ -1,26 +1,24 @@
 // Challenge and Verdict: the life in numbers, and calls with any lengths and numbers.
-use crate::key_vector::ID;
-use crate::masks::RESPONSE;
-use crate::report;
-use crate::rfc8439::counting_key;
+use cases::CHALLENGE;
+use cases::ID;
+use cases::RESPONSE;
+use cases::counting_key;
 
-// To node 2: places 0 and 1, coefficients 07 and b5; and the rows that the table has for it.
-const CHALLENGE: [u8; 5] = [0x14, 0x40, 0x1c, 0xda, 0x80];
-
+// The rows that the table has for node 2.
 const ROWS: [u8; 4] = [0xf3, 0xfe, 0x72, 0xfb];
 
 fn challenge_worked() {
     let mut message = [0u8; 5];
     let answer = answer::number(audit::challenge(2, &[0, 1], &[0x07, 0xb5], &mut message));
-    report::number(b"Challenge's answer", 0, answer as u64);
-    report::bytes(b"Challenge to node 2, places 0 and 1", &CHALLENGE, &message);
+    cases::number(b"Challenge's answer", 0, answer as u64);
+    cases::bytes(b"Challenge to node 2, places 0 and 1", &CHALLENGE, &message);
 }
 
 fn challenge_of_one() {
     let mut message = [0xffu8; 3];
     let answer = answer::number(audit::challenge(2, &[0], &[1], &mut message));
-    report::number(b"Challenge's answer, one item", 0, answer as u64);
-    report::bytes(
+    cases::number(b"Challenge's answer, one item", 0, answer as u64);
+    cases::bytes(
         b"Challenge to node 2, place 0, coefficient 01",
         &[0x14, 0x20, 0x04],
         &message,
@@ -49,8 +47,8 @@ fn challenge(
         &ones[0..coefficients % 65],
         &mut lent[0..message % 65],
     ));
-    report::number(label, expected, answer as u64);
-    report::kept(lent);
+    cases::number(label, expected, answer as u64);
+    cases::kept(lent);
 }
 
 // 2, unequal lists; 9, fields out of rule; 2, output length: in that order.
@@ -92,7 +90,7 @@ fn judged(label: &[u8], expected: u64, rows: &[u8], at: usize, b: u8) {
         &CHALLENGE,
         &response,
     );
-    report::number(label, expected, audit::number(judgement) as u64);
+    cases::number(label, expected, audit::number(judgement) as u64);
 }
 
 fn verdicts() {
@@ -124,7 +122,7 @@ fn sized(label: &[u8], expected: u64, n: usize, m: usize, places: usize, nodes: 
         &CHALLENGE,
         &RESPONSE,
     );
-    report::number(label, expected, audit::number(judgement) as u64);
+    cases::number(label, expected, audit::number(judgement) as u64);
 }
 
 fn sizes() {
@@ -138,7 +136,7 @@ fn sizes() {
 
 fn asked(label: &[u8], expected: u64, message: &[u8]) {
     let judgement = audit::verdict(&counting_key(0), &ID, 3, 2, 2, 3, &ROWS, message, &RESPONSE);
-    report::number(label, expected, audit::number(judgement) as u64);
+    cases::number(label, expected, audit::number(judgement) as u64);
 }
 
 fn messages() {

@@ -1,11 +1,10 @@
 // Rows and elimination: document 01's rows 01 00 and 02 03, and rows that do not determine a vector.
-use crate::report;
 use linear::Row;
 
 // Of the first k rows, m elements each; both are below 17.
 fn rank(label: &[u8], expected: u64, a: [[u8; 16]; 16], k: usize, m: usize) {
     let r = linear::reduce(a, k % 17, m % 17);
-    report::number(label, expected, r.rank as u64);
+    cases::number(label, expected, r.rank as u64);
 }
 
 // The first two bytes of the first two combinations.
@@ -28,7 +27,7 @@ pub fn run() {
     a[1][0] = 2;
     a[1][1] = 3;
     rank(b"Rank of 01 00 and 02 03", 2, a, 2, 2);
-    report::bytes(
+    cases::bytes(
         b"Combinations that solve them",
         &[0x01, 0x00, 0xf7, 0xf6],
         &combinations(a),
@@ -38,5 +37,5 @@ pub fn run() {
     rank(b"Rank of those and 03 03", 2, a, 3, 2);
     rank(b"Rank of those and 03 03, m=3", 2, a, 3, 3);
     let v = Row { bytes: a[1] };
-    report::number(b"Row 02 03 times itself", 1, linear::dot(v, v, 2) as u64);
+    cases::number(b"Row 02 03 times itself", 1, linear::dot(v, v, 2) as u64);
 }

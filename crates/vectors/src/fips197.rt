@@ -1,6 +1,5 @@
 // FIPS 197: products (4.2), the chain of xtime (4.2.1), the S-box (5.1.1), and every product against a second method.
 ghost use Prim.Native.Nat.{_≤_};
-use crate::report;
 use field::Inverted;
 
 // Figure 7, row by row.
@@ -22,7 +21,7 @@ const SBOX: [u8; 256] = *b"\x63\x7c\x77\x7b\xf2\x6b\x6f\xc5\x30\x01\x67\x2b\xfe\
     \x8c\xa1\x89\x0d\xbf\xe6\x42\x68\x41\x99\x2d\x0f\xb0\x54\xbb\x16";
 
 fn product(label: &[u8], a: u8, b: u8, expected: u8) {
-    report::number(label, expected as u64, field::multiply(a, b) as u64);
+    cases::number(label, expected as u64, field::multiply(a, b) as u64);
 }
 
 fn products() {
@@ -44,8 +43,8 @@ fn inverse_or_zero(x: u8) -> u8 {
 
 // The byte, and the number of the answer; an element with a refusal's number cannot be.
 fn inverse_case(label: &[u8], a: u8, expected: u8, answered: u8) {
-    report::number(label, expected as u64, inverse_or_zero(a) as u64);
-    report::number(
+    cases::number(label, expected as u64, inverse_or_zero(a) as u64);
+    cases::number(
         b"Inverse's answer",
         answered as u64,
         answer::number(field::outcome(field::inverse(a))) as u64,
@@ -78,7 +77,7 @@ fn sbox() {
     for x in 0..256 {
         got[x] = substituted((x % 256) as u8);
     }
-    report::bytes(b"FIPS 197 5.1.1, S-box", &SBOX, &got);
+    cases::bytes(b"FIPS 197 5.1.1, S-box", &SBOX, &got);
 }
 
 // The product of the polynomials a and b, of up to fifteen bits.
@@ -133,7 +132,7 @@ fn all_products() {
     for a in 0usize..256 {
         found = found + differences_with((a % 256) as u8);
     }
-    report::number(
+    cases::number(
         b"65536 products, differences from the second method",
         0,
         found,

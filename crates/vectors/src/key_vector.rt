@@ -1,14 +1,12 @@
 // Vector: the key vector of the life in numbers, and calls with any lengths and numbers.
-use crate::report;
-use crate::rfc8439::counting_key;
-
-pub const ID: [u8; 8] = [1, 2, 3, 4, 5, 6, 7, 8];
+use cases::ID;
+use cases::counting_key;
 
 fn worked() {
     let mut out = [0u8; 5];
     let answer = answer::number(tag::vector(&counting_key(0), &ID, 3, 2, &mut out));
-    report::number(b"Vector's answer", 0, answer as u64);
-    report::bytes(
+    cases::number(b"Vector's answer", 0, answer as u64);
+    cases::bytes(
         b"Vector, key 00 .. 1f, id 01 .. 08, n=3, m=2",
         &[0x04, 0x22, 0x0a, 0x59, 0x61],
         &out,
@@ -27,8 +25,8 @@ fn refused(label: &[u8], expected: u64, key: usize, id: usize, n: usize, m: usiz
         m,
         &mut lent[0..out % 65],
     ));
-    report::number(label, expected, answer as u64);
-    report::kept(lent);
+    cases::number(label, expected, answer as u64);
+    cases::kept(lent);
 }
 
 // Sizes outside their ranges are refused with 1, before any length is looked at; a wrong length with 2.

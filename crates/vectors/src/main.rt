@@ -1,11 +1,10 @@
-// Runs the vectors of RFC 8439 and FIPS 197, document 01's worked values and hostile calls through the public functions.
+// Runs the vectors of RFC 8439 and FIPS 197, document 01's worked values and hostile calls through the public functions below the archive.
 mod audits;
 mod elimination;
 mod fips197;
 mod key_vector;
 mod masks;
 mod packing;
-mod report;
 mod rfc8439;
 
 fn main() {

@@ -1,28 +1,7 @@
 // Setup and Unmask: the life in numbers, and calls with any lengths and numbers.
-use crate::key_vector::ID;
-use crate::report;
-use crate::rfc8439::counting_key;
-
-// The response of the life in numbers: n=3, node 2, its seed 00 14 28 .. c8.
-pub const RESPONSE: [u8; 17] = [
-    0x24,
-    0x2a,
-    0x00,
-    0x14,
-    0x28,
-    0x3c,
-    0x50,
-    0x64,
-    0x78,
-    0x8c,
-    0xa0,
-    0xb4,
-    0xc8,
-    0x63,
-    0xc8,
-    0x55,
-    0x4d,
-];
+use cases::ID;
+use cases::RESPONSE;
+use cases::counting_key;
 
 fn setup_worked() {
     let mut elements = [0u8; 2];
@@ -33,8 +12,8 @@ fn setup_worked() {
         3,
         &mut elements,
     ));
-    report::number(b"Setup's answer", 0, answer as u64);
-    report::bytes(
+    cases::number(b"Setup's answer", 0, answer as u64);
+    cases::bytes(
         b"Setup, keys 00 .. 1f and 64 .. 83, id 01 .. 08, n=3",
         &[0xa7, 0xaa],
         &elements,
@@ -44,8 +23,8 @@ fn setup_worked() {
 fn unmask_worked() {
     let mut block = [0u8; 1];
     let answer = answer::number(mask::unmask(3, &ID, &counting_key(100), &RESPONSE, &mut block));
-    report::number(b"Unmask's answer", 0, answer as u64);
-    report::bytes(b"Unmask", &[0x74], &block);
+    cases::number(b"Unmask's answer", 0, answer as u64);
+    cases::bytes(b"Unmask", &[0x74], &block);
 }
 
 // The first key element is zero for the key 00 .. 1f and the id 67 00 ..: 7, after the lengths.
@@ -60,8 +39,8 @@ fn zero_vector(label: &[u8], expected: u64, out: usize) {
         3,
         &mut lent[0..out % 65],
     ));
-    report::number(label, expected, answer as u64);
-    report::kept(lent);
+    cases::number(label, expected, answer as u64);
+    cases::kept(lent);
 }
 
 // A refused Setup with buffers of these lengths, each below 65.
@@ -85,8 +64,8 @@ fn setup(
         n,
         &mut lent[0..out % 65],
     ));
-    report::number(label, expected, answer as u64);
-    report::kept(lent);
+    cases::number(label, expected, answer as u64);
+    cases::kept(lent);
 }
 
 fn setup_refused() {
@@ -128,8 +107,8 @@ fn unmask(
         &responses[0..response % 65],
         &mut lent[0..out % 65],
     ));
-    report::number(label, expected, answer as u64);
-    report::kept(lent);
+    cases::number(label, expected, answer as u64);
+    cases::kept(lent);
 }
 
 fn unmask_refused() {

@@ -1,5 +1,4 @@
 // RFC 8439: the quarter round (2.1.1), the block function (2.3.2, appendix A.1) and keystreams (appendix A.2).
-use crate::report;
 use keystream::Four;
 use keystream::Stream;
 
@@ -88,26 +87,17 @@ fn quarter() {
         c: 0x9b8d6f43,
         d: 0x01234567,
     });
-    report::number(b"RFC 8439 2.1.1, a", 0xea2a92f4, r.a as u64);
-    report::number(b"RFC 8439 2.1.1, b", 0xcb1cf8ce, r.b as u64);
-    report::number(b"RFC 8439 2.1.1, c", 0x4581472e, r.c as u64);
-    report::number(b"RFC 8439 2.1.1, d", 0x5881c4bb, r.d as u64);
+    cases::number(b"RFC 8439 2.1.1, a", 0xea2a92f4, r.a as u64);
+    cases::number(b"RFC 8439 2.1.1, b", 0xcb1cf8ce, r.b as u64);
+    cases::number(b"RFC 8439 2.1.1, c", 0x4581472e, r.c as u64);
+    cases::number(b"RFC 8439 2.1.1, d", 0x5881c4bb, r.d as u64);
 }
 
 fn block_case(label: &[u8], key: [u8; 32], counter: u32, nonce: [u8; 12], expected: &[u8]) {
     let mut out = [0u8; 64];
     let answer = answer::number(keystream::block(&key, counter, &nonce, &mut out));
-    report::number(b"Block's answer", 0, answer as u64);
-    report::bytes(label, expected, &out);
-}
-
-// 32 bytes, each one more than the one before; the first is below 128.
-pub fn counting_key(first: u8) -> [u8; 32] {
-    let mut key = [0u8; 32];
-    for i in 0u8..32 {
-        key[i as usize] = first % 128 + i;
-    }
-    key
+    cases::number(b"Block's answer", 0, answer as u64);
+    cases::bytes(label, expected, &out);
 }
 
 fn blocks() {
@@ -122,7 +112,13 @@ fn blocks() {
     let mut nonce = none;
     nonce[3] = 9;
     nonce[7] = 0x4a;
-    block_case(b"RFC 8439 2.3.2", counting_key(0), 1, nonce, &SECTION_2_3_2);
+    block_case(
+        b"RFC 8439 2.3.2",
+        cases::counting_key(0),
+        1,
+        nonce,
+        &SECTION_2_3_2,
+    );
     block_case(b"RFC 8439 A.1 #1", zero, 0, none, &BLOCK_1);
     block_case(b"RFC 8439 A.1 #2", zero, 1, none, &BLOCK_2);
     block_case(b"RFC 8439 A.1 #3", one, 1, none, &BLOCK_3);
@@ -172,18 +168,18 @@ fn streams() {
     two[11] = 2;
     let mut first = [0u8; 64];
     encrypt(Stream::new(zero, none), &mut first);
-    report::bytes(b"RFC 8439 A.2 #1", &BLOCK_1, &first);
+    cases::bytes(b"RFC 8439 A.2 #1", &BLOCK_1, &first);
     let mut second = TEXT_2;
     encrypt(skipped(Stream::new(one, two), 1), &mut second);
-    report::bytes(b"RFC 8439 A.2 #2", &CIPHER_2, &second);
+    cases::bytes(b"RFC 8439 A.2 #2", &CIPHER_2, &second);
     let mut third = TEXT_3;
     encrypt(skipped(Stream::new(KEY_3, two), 42), &mut third);
-    report::bytes(b"RFC 8439 A.2 #3", &CIPHER_3, &third);
+    cases::bytes(b"RFC 8439 A.2 #3", &CIPHER_3, &third);
 }
 
 fn refused(label: &[u8], key: &[u8], nonce: &[u8], out: &mut [u8]) {
     let answer = answer::number(keystream::block(key, 0, nonce, out));
-    report::number(label, 2, answer as u64);
+    cases::number(label, 2, answer as u64);
 }
 
 // A wrong length is refused with 2, and the output keeps its bytes.
@@ -196,17 +192,17 @@ fn refusals() {
     refused(b"Block, no key", &[0xa5u8; 0], &nonce, &mut out);
     refused(b"Block, nonce of 11 bytes", &key, &[0xa5u8; 11], &mut out);
     refused(b"Block, nonce of 13 bytes", &key, &[0xa5u8; 13], &mut out);
-    report::bytes(b"Block, output after refusals", &[0xa5u8; 64], &out);
+    cases::bytes(b"Block, output after refusals", &[0xa5u8; 64], &out);
     let mut short = [0xa5u8; 63];
     refused(b"Block, output of 63 bytes", &key, &nonce, &mut short);
-    report::bytes(
+    cases::bytes(
         b"Block, output of 63 bytes after its refusal",
         &[0xa5u8; 63],
         &short,
     );
     let mut long = [0xa5u8; 65];
     refused(b"Block, output of 65 bytes", &key, &nonce, &mut long);
-    report::bytes(
+    cases::bytes(
         b"Block, output of 65 bytes after its refusal",
         &[0xa5u8; 65],
         &long,

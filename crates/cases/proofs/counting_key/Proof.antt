@@ -1,7 +1,7 @@
 use borrow.Author.Needs.{needs}
 use Prim.Native.Nat.{_≤_, _-_}
-use Rattle.vectors.proofs.rfc8439.counting_key.Statement.{statement}
-use Rattle.vectors.proofs.rfc8439.counting_key.Tie as tie
+use Rattle.cases.proofs.counting_key.Statement.{statement}
+use Rattle.cases.proofs.counting_key.Tie as tie
 
 abbrev Inv-loop : tie.InvT-loop
 Inv-loop first key₀ i₀ key i = i ≤ 32

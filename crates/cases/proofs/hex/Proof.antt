@@ -1,7 +1,7 @@
 use borrow.Author.Needs.{needs}
 use Prim.Native.Nat.{_≤_, _-_}
-use Rattle.vectors.proofs.report.hex.Statement.{statement}
-use Rattle.vectors.proofs.report.hex.Tie as tie
+use Rattle.cases.proofs.hex.Statement.{statement}
+use Rattle.cases.proofs.hex.Tie as tie
 
 abbrev Inv-loop : tie.InvT-loop
 Inv-loop s i₀ i-end i = i ≤ i-end

@@ -1,0 +1,173 @@
+// Encode, Lose and Repair with any lengths and numbers, on the archive of the life in numbers.
+use crate::archives::changed;
+
+// A refused Encode with buffers of these lengths, each below 65.
+fn encode(
+    label: &[u8],
+    expected: u64,
+    node: usize,
+    place: usize,
+    file: usize,
+    padding: usize,
+    key: usize,
+    row: usize,
+) {
+    let s = changed(0, 0x10);
+    let mut t = s;
+    let files = [1u8; 64];
+    let paddings = files;
+    let keys = files;
+    let rows = files;
+    let answer = coding::encode(
+        &mut t[0..54],
+        node,
+        place,
+        &files[0..file % 65],
+        &paddings[0..padding % 65],
+        &keys[0..key % 65],
+        &rows[0..row % 65],
+    );
+    cases::number(label, expected, answer::number(answer) as u64);
+    cases::unchanged(s, t);
+}
+
+// 2, a length; 4, no such node or place; 6, place filled.
+fn encode_refused() {
+    encode(b"Encode, file one short", 2, 3, 0, 1, 4, 32, 2);
+    encode(b"Encode, file one long", 2, 0, 0, 3, 4, 32, 2);
+    encode(b"Encode, no file", 2, 0, 0, 0, 4, 32, 2);
+    encode(b"Encode, padding one short", 2, 0, 0, 2, 3, 32, 2);
+    encode(b"Encode, padding one long", 2, 0, 0, 2, 5, 32, 2);
+    encode(b"Encode, key one short", 2, 0, 0, 2, 4, 31, 2);
+    encode(b"Encode, key one long", 2, 0, 0, 2, 4, 33, 2);
+    encode(b"Encode, row one short", 2, 0, 0, 2, 4, 32, 1);
+    encode(b"Encode, row one long", 2, 1, 0, 2, 4, 32, 3);
+    encode(b"Encode, node 3", 4, 3, 0, 2, 4, 32, 2);
+    encode(b"Encode, node 2^63", 4, 9223372036854775808, 0, 2, 4, 32, 2);
+    encode(b"Encode, place 2", 4, 1, 2, 2, 4, 32, 2);
+    encode(
+        b"Encode, place 2^64-1",
+        4,
+        1,
+        18446744073709551615,
+        2,
+        4,
+        32,
+        2,
+    );
+    encode(b"Encode, place filled", 6, 1, 0, 2, 4, 32, 2);
+    encode(b"Encode, last place filled", 6, 2, 1, 2, 4, 32, 2);
+}
+
+fn lose(label: &[u8], node: usize) {
+    let s = changed(0, 0x10);
+    let mut t = s;
+    let answer = archive::lose(&mut t[0..54], node);
+    cases::number(label, 4, answer::number(answer) as u64);
+    cases::unchanged(s, t);
+}
+
+fn lose_refused() {
+    lose(b"Lose, node 3", 3);
+    lose(b"Lose, node 7", 7);
+    lose(b"Lose, node 2^63", 9223372036854775808);
+    lose(b"Lose, node 2^64-1", 18446744073709551615);
+}
+
+// A refused Repair with lists of these lengths, each below 65; the first helper is given, the others are node 1.
+fn repair(
+    label: &[u8],
+    expected: u64,
+    target: usize,
+    helpers: usize,
+    first: u8,
+    q: usize,
+    gammas: usize,
+    thetas: usize,
+    scratch: usize,
+) {
+    let s = changed(0, 0x10);
+    let mut t = s;
+    let coefficients = [1u8; 64];
+    let others = coefficients;
+    let mut nodes = coefficients;
+    nodes[0] = first;
+    let mut lent = [0xa5u8; 64];
+    let answer = coding::repair(
+        &mut t[0..54],
+        target,
+        &nodes[0..helpers % 65],
+        q,
+        &coefficients[0..gammas % 65],
+        &others[0..thetas % 65],
+        &mut lent[0..scratch % 65],
+    );
+    cases::number(label, expected, answer::number(answer) as u64);
+    cases::unchanged(s, t);
+    cases::kept(lent);
+}
+
+// 1, P or Q; 2, a length.
+fn repair_sizes() {
+    repair(b"Repair, no helper", 1, 0, 0, 1, 1, 0, 0, 0);
+    repair(b"Repair, 6 helpers", 1, 0, 6, 1, 1, 12, 12, 36);
+    repair(b"Repair, Q=0", 1, 0, 1, 1, 0, 0, 0, 0);
+    repair(b"Repair, Q=9", 1, 0, 1, 1, 9, 18, 18, 54);
+    repair(b"Repair, Q=2^63", 1, 0, 2, 1, 9223372036854775808, 0, 0, 0);
+    repair(
+        b"Repair, Q=2^64-1",
+        1,
+        0,
+        1,
+        1,
+        18446744073709551615,
+        2,
+        2,
+        6,
+    );
+    repair(b"Repair, gammas one short", 2, 3, 1, 1, 1, 1, 2, 6);
+    repair(b"Repair, gammas one long", 2, 0, 1, 1, 1, 3, 2, 6);
+    repair(b"Repair, no thetas", 2, 0, 1, 1, 1, 2, 0, 6);
+    repair(b"Repair, thetas one long", 2, 0, 1, 1, 1, 2, 3, 6);
+    repair(b"Repair, scratch one short", 2, 0, 1, 1, 1, 2, 2, 5);
+    repair(b"Repair, scratch one long", 2, 0, 1, 1, 1, 2, 2, 7);
+    repair(b"Repair, no scratch", 2, 0, 1, 1, 1, 2, 2, 0);
+}
+
+// 4, target or a helper; 6, any place of the target filled; 5, any place of a helper empty.
+fn repair_places() {
+    repair(b"Repair, target 3", 4, 3, 1, 1, 1, 2, 2, 6);
+    repair(
+        b"Repair, target 2^64-1",
+        4,
+        18446744073709551615,
+        1,
+        1,
+        1,
+        2,
+        2,
+        6,
+    );
+    repair(b"Repair, helper 3", 4, 1, 1, 3, 1, 2, 2, 6);
+    repair(b"Repair, helper 255", 4, 0, 2, 255, 1, 4, 4, 12);
+    repair(b"Repair, target filled", 6, 2, 1, 1, 1, 2, 2, 6);
+    repair(
+        b"Repair, target filled and helper empty",
+        6,
+        2,
+        1,
+        0,
+        1,
+        2,
+        2,
+        6,
+    );
+    repair(b"Repair, the target as helper", 5, 0, 2, 0, 1, 4, 4, 12);
+}
+
+pub fn run() {
+    encode_refused();
+    lose_refused();
+    repair_sizes();
+    repair_places();
+}

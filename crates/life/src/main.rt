@@ -1,0 +1,18 @@
+// Lives the life in numbers through the archive's operations, with document 01's worked header and marks, and calls each operation
+// with hostile bytes, lengths and numbers.
+mod archives;
+mod bad;
+mod coding_refused;
+mod living;
+mod opening;
+mod proving_refused;
+mod reading_refused;
+
+fn main() {
+    opening::run();
+    living::run();
+    bad::run();
+    coding_refused::run();
+    proving_refused::run();
+    reading_refused::run();
+}

@@ -1,0 +1,41 @@
+// Inventory and Read with any lengths, and Read of damaged records.
+use crate::archives::LIVED;
+use crate::archives::changed;
+use crate::archives::counted;
+
+fn inventory(label: &[u8], len: usize) {
+    let mut lent = [0xa5u8; 64];
+    let found = archive::inventory(&LIVED, &mut lent[0..len % 65]);
+    cases::number(label, 2, archive::number(found) as u64);
+    cases::kept(lent);
+}
+
+fn read(label: &[u8], expected: u64, at: usize, b: u8, len: usize) {
+    let s = changed(at, b);
+    let mut lent = [0xa5u8; 64];
+    let done = reading::read(&s[0..54], &mut lent[0..len % 65]);
+    cases::number(label, expected, archive::number(done) as u64);
+    cases::kept(lent);
+}
+
+// Record contents are not examined: a file solves for the places taken, whatever they hold.
+fn damaged(label: &[u8], at: usize, b: u8, file: [u8; 2]) {
+    let s = changed(at, b);
+    let mut got = [0u8; 2];
+    let done = reading::read(&s[0..54], &mut got);
+    cases::number(label, 3, counted(done) as u64);
+    cases::bytes(label, &file, &got);
+}
+
+pub fn run() {
+    inventory(b"Inventory, list one short", 5);
+    inventory(b"Inventory, list one long", 7);
+    inventory(b"Inventory, no list", 0);
+    read(b"Read, file one short", 2, 0, 0x10, 1);
+    read(b"Read, file one long", 2, 0, 0x10, 3);
+    read(b"Read, no file", 2, 12, 0x30, 0);
+    read(b"Read, node 1 alone, one of its rows zero", 8, 12, 0x30, 2);
+    read(b"Read, no place filled", 8, 12, 0x00, 2);
+    damaged(b"Read, a data byte damaged", 30, 0x00, [0x84, 0xbd]);
+    damaged(b"Read, a row element damaged", 33, 0x00, [0x3c, 0x20]);
+}

@@ -1,0 +1,93 @@
+-- The file written from the chosen places solves for the blocks, and what Read answers. Assumes nothing.
+use Prim.Native.Nat.{ℕ, _-_, _*_, _/_, _%_, _<_}
+use mathlib.Core.Path.{_≡_, refl, sym, ap, subst, _∙_}
+use mathlib.Core.Logic.{inr}
+use mathlib.Core.Bool.{Bool, false}
+use mathlib.Core.List.{List}
+use native.Mathlib.Nat.{div-add-mod', mod-lt, div-lt-iff-lt-mul}
+use native.Mathlib.Omega.{arith}
+use lib.ListN.{length}
+use Rattle.lists.specs.Lists.{at, flat, grid}
+use Rattle.lists.proofs.PutLaws.{length-flat, flat-at, grid-all}
+use Rattle.answer.specs.declared.Outcome.the-variants.{Done}
+use Rattle.answer.specs.declared.Refusal.the-variants.{Unreadable}
+use Rattle.answer.proofs.RefusalLaws.{passed, differs-same}
+use Rattle.tag.specs.declared.Sizes.{Sizes}
+use Rattle.tag.specs.Vectors.{product, mixed}
+use Rattle.tag.proofs.SizeLaws.{Ranged}
+use Rattle.tag.proofs.VectorLaws.{mixed-lt, product-keys}
+use Rattle.linear.specs.Elimination.{Matrix, Reduces}
+use Rattle.archive.specs.Layout.{sizesOf, byteIn, badArchive}
+use Rattle.archive.specs.Blocks.{fileLength}
+use Rattle.archive.specs.Read.{howMany, rowIn, Solved, readBefore, ReadFor, ReadAllows}
+use Rattle.archive.specs.declared.Counted.the-variants.{Count, Refused}
+use Rattle.archive.proofs.CallLaws.{read-sizes}
+use Rattle.reading.specs.declared.Chosen.{Chosen}
+use Rattle.reading.specs.Choice.{Complete}
+use Rattle.reading.proofs.ChoiceLaws.{rowsOf}
+use Rattle.reading.proofs.ReadingLaws.{taken-listed, listed-low, count-full, takes-all, unreadable, readable, enough}
+
+-- every element of blocks in a row has what each element of a block has
+flat-every : (P : ℕ → Type 0) (n m : ℕ) (f : ℕ → ℕ → ℕ) → 0 < m → ((k p : ℕ) → P (f k p)) → (i : ℕ) → i < n * m → P (at (flat n m f) i)
+flat-every P n m f pos h i l =
+    subst (λ (x : ℕ). P (at (flat n m f) x)) (div-add-mod' i m)
+    (subst P (sym (flat-at n m f (i / m) (i % m) (div-lt-iff-lt-mul {k = m} pos .1 l) (mod-lt i pos))) (h (i / m) (i % m)))
+
+module _ (z : Sizes) (s : List ℕ) (c : Chosen) (chosen : Complete z s c) (t : Matrix) (rank : ℕ)
+    (reduced : Reduces (c .count) (z .m) (rowsOf z s c) t rank) where
+  -- block i without its padding
+  abbrev block : ℕ → ℕ → ℕ
+  block i = mixed (z .m) (t i) (λ r. byteIn z s (at (c .places) r))
+
+  module _ (R : Ranged z) (low : (i : ℕ) → at s i < 256) (full : rank ≡ z .m) where
+    -- the blocks solve for what the listed places hold
+    block-solves : (e r : ℕ) → r < c .count → product (z .m) (rowsOf z s c r) (λ i. block i e) ≡ byteIn z s (at (c .places) r) e
+    unfolding product mixed byteIn
+    block-solves e r h =
+        let all = count-full z s c chosen t rank reduced full in
+        let column : ℕ → ℕ = λ r. byteIn z s (at (c .places) r) e in
+        product-keys (z .m) (rowsOf z s c r) (λ i. block i e) (λ i. product (c .count) (t i) column) (λ i l. ap (λ (n : ℕ). product n (t i) column) (sym all))
+        ∙ reduced .solves full all column (λ j l. low _) r h
+
+    -- the file is a solution
+    solved : (out : List ℕ) {file : List ℕ} → length out ≡ fileLength z → file ≡ grid (z .m) (z .n - 2) 0 block out → Solved z s file
+    solved out size written = rw (written ∙ grid-all (z .m) (z .n - 2) block out size) made
+      where
+        taken : ℕ → Bool
+        taken = chosen .choice .taken
+
+        made : Solved z s (flat (z .m) (z .n - 2) block)
+        made =
+            record {
+              taken = taken;
+              takes = takes-all z s c chosen t rank reduced full low;
+              size = length-flat (z .m) (z .n - 2) block;
+              bytes = λ i h.
+                  flat-every (λ x. x < 256) (z .m) (z .n - 2) block (omega (arith, R .n-low)) (λ k p. mixed-lt _ _ _ _) i
+                  (omega (arith, h, length-flat (z .m) (z .n - 2) block));
+              solves = λ k e h q he.
+                  product-keys (z .m) (rowIn z s k) _ (λ i. block i e) (λ i l. flat-at (z .m) (z .n - 2) block i e l he)
+                  ∙ subst (λ (p : ℕ). product (z .m) (rowIn z s p) (λ i. block i e) ≡ byteIn z s p e) (taken-listed z s c chosen k q)
+                  (block-solves e (howMany k taken) (listed-low z s c chosen k q));
+            }
+
+  -- ---- the answers
+
+  module _ (out : List ℕ) (good : badArchive s ≡ false) (read : z ≡ sizesOf s) (size : length out ≡ fileLength (sizesOf s)) where
+    -- nothing is refused before
+    not-before : readBefore z s out ≡ Done
+    not-before = passed _ _ good ∙ passed _ _ (differs-same (size ∙ sym (ap fileLength read)))
+
+    -- rank below m
+    pub refuses : rank < z .m → ReadAllows s out (Refused Unreadable) out
+    refuses below = subst (λ (x : Sizes). ReadFor x s out (Refused Unreadable) out) read (refl, inr (not-before, refl, unreadable z s c chosen t rank reduced below))
+
+    -- rank m
+    pub reads : {file : List ℕ} → ((i : ℕ) → at s i < 256) → rank ≡ z .m → file ≡ grid (z .m) (z .n - 2) 0 block out → ReadAllows s out (Count (c .consulted)) file
+    reads {file} low full written =
+        subst (λ (x : Sizes). ReadFor x s out (Count (c .consulted)) file) read (
+          not-before,
+          readable z s c chosen t rank reduced full,
+          solved (read-sizes s read good) low full out (rw read size) written,
+          enough z s c chosen t rank reduced full,
+        )

@@ -1,0 +1,75 @@
+-- A combination of the taken places' rows is one of the rows listed in order. Assumes nothing.
+use Prim.Native.Nat.{ℕ, zero, suc, _+_, _-_, _<_, _≤_}
+use mathlib.Core.Path.{_≡_, refl, sym, ap, ap₂, _∙_}
+use mathlib.Core.Bool.{Bool, true, false}
+use mathlib.Core.List.{List}
+use native.Mathlib.Nat.{add-zero}
+use native.Mathlib.Omega.{arith}
+use lib.Bits.{xor-zero-r}
+use Rattle.lists.specs.Lists.{pick}
+use Rattle.field.specs.Field.{plus, sum, times}
+use Rattle.field.proofs.SumLaws.{sum-more}
+use Rattle.field.proofs.TimesLaws.{times-zero}
+use Rattle.bits.specs.Fields.{bit}
+use Rattle.tag.specs.declared.Sizes.{Sizes}
+use Rattle.tag.specs.Vectors.{mixed}
+use Rattle.archive.specs.Read.{howMany, rowIn, Combined}
+use Rattle.archive.proofs.InventoryLaws.{howMany-none, howMany-split}
+use Rattle.archive.proofs.ListingLaws.{howMany-more}
+
+-- ---- counting
+
+-- up to a later index, the indices from k on that pass are added
+howMany-from : (k l : ℕ) (p : ℕ → Bool) → k ≤ l → howMany l p ≡ howMany k p + howMany (l - k) (λ i. p (k + i))
+howMany-from k l p h = let e : l ≡ k + (l - k) = omega arith in ap (λ (n : ℕ). howMany n p) e ∙ howMany-split k (l - k) p
+
+pub howMany-mono : (k l : ℕ) (p : ℕ → Bool) → k ≤ l → howMany k p ≤ howMany l p
+howMany-mono k l p h = omega (arith, howMany-from k l p h)
+
+-- an index that passes is counted
+pub howMany-less : (j k : ℕ) (p : ℕ → Bool) → j < k → p j ≡ true → howMany j p < howMany k p
+howMany-less j k p h e = omega (arith, howMany-mono (j + 1) k p (omega arith), howMany-more j p, ap bit e)
+
+-- no index from k on passes
+pub howMany-stop : (k l : ℕ) (p : ℕ → Bool) → k ≤ l → ((j : ℕ) → k ≤ j → p j ≡ false) → howMany l p ≡ howMany k p
+howMany-stop k l p h later = omega (arith, howMany-from k l p h, howMany-none (l - k) (λ i. p (k + i)) (λ i b. later (k + i) (omega arith)))
+
+-- ---- combinations
+
+module _ (taken : ℕ → Bool) (places : ℕ → ℕ) (row : ℕ → ℕ → ℕ) where
+  -- the taken places below k are listed in order
+  abbrev Lists : ℕ → Type 0
+  Lists k = (j : ℕ) → j < k → taken j ≡ true → places (howMany j taken) ≡ j
+
+  -- the coefficients y of the listed rows are those that c gives to the places
+  both : (c y : ℕ → ℕ) (i k : ℕ) → Lists k → ((j : ℕ) → j < k → taken j ≡ true → c j ≡ y (howMany j taken))
+      → mixed k c (λ j e. pick (taken j) (row j e) 0) i ≡ mixed (howMany k taken) y (λ t. row (places t)) i
+  unfolding mixed sum howMany
+  both c y i zero listed same = refl
+  both c y i (suc k) listed same =
+      go (taken k) refl (both c y i k (λ j l. listed j (omega arith)) (λ j l. same j (omega arith)))
+    where
+      go : (t : Bool) → taken k ≡ t
+          → sum k (λ j. times (c j) (pick (taken j) (row j i) 0)) ≡ sum (howMany k taken) (λ t. times (y t) (row (places t) i))
+          → plus (sum k (λ j. times (c j) (pick (taken j) (row j i) 0))) (times (c k) (pick t (row k i) 0))
+          ≡ sum (howMany k taken + bit t) (λ t. times (y t) (row (places t) i))
+      go true e before =
+          sum-more (howMany k taken) (λ t. times (y t) (row (places t) i)) before
+          (ap₂ times (same k (omega arith) e) (ap (λ (p : ℕ). row p i) (sym (listed k (omega arith) e))))
+      go false e before = rw (times-zero (c k), xor-zero-r, add-zero) before
+
+  -- coefficients of places
+  pub gather : (c : ℕ → ℕ) (i k : ℕ) → Lists k
+      → mixed k c (λ j e. pick (taken j) (row j e) 0) i ≡ mixed (howMany k taken) (λ t. c (places t)) (λ t. row (places t)) i
+  gather c i k listed = both c (λ t. c (places t)) i k listed (λ j l e. ap c (sym (listed j l e)))
+
+  -- coefficients of listed rows
+  pub spread : (y : ℕ → ℕ) (i k : ℕ) → Lists k
+      → mixed k (λ j. y (howMany j taken)) (λ j e. pick (taken j) (row j e) 0) i ≡ mixed (howMany k taken) y (λ t. row (places t)) i
+  spread y i k listed = both (λ j. y (howMany j taken)) y i k listed (λ j l e. refl)
+
+-- a combination of the listed rows is one of the rows taken
+pub combined-listed : (z : Sizes) (s : List ℕ) (taken : ℕ → Bool) (places y : ℕ → ℕ) (k : ℕ) → Lists taken places (rowIn z s) k
+    → ((i : ℕ) → i < z .m → rowIn z s k i ≡ mixed (howMany k taken) y (λ t. rowIn z s (places t)) i) → Combined z s taken k
+combined-listed z s taken places y k listed h =
+    (λ j. y (howMany j taken), λ i l. h i l ∙ sym (spread taken places (rowIn z s) y i k listed))

@@ -1,0 +1,7 @@
+pub mod GatherLaws
+pub mod ChoiceLaws
+pub mod RowLaws
+pub mod ConsultLaws
+pub mod SolvingLaws
+pub mod ReadingLaws
+pub mod FileLaws

@@ -1,0 +1,82 @@
+// Which places Read takes: by node, then place, each filled one whose row is independent of those taken.
+ghost use mathlib.Core.Path.{_≡_};
+ghost use mathlib.Core.Bool.{false};
+ghost use Prim.Native.Nat.{ℕ, _+_, _<_, _≤_};
+ghost use lib.ListN.{length};
+ghost use Rattle.lists.specs.Lists.{at};
+ghost use Rattle.tag.specs.Sizes.{sizesOutside};
+ghost use Rattle.linear.specs.Elimination.{cells};
+ghost use Rattle.archive.specs.Layout.{placeCount, archiveLength, sizesOf, badArchive};
+ghost use Rattle.archive.specs.Read.{rowIn};
+ghost use Rattle.reading.specs.Choice.{Choice, Complete};
+use crate::Chosen;
+use tag::Sizes;
+
+// The row of place number k.
+fn row_at(archive: &[u8], z: Sizes, k: usize) -> [u8; 16]
+    requires { ⌜ (sizesOutside z ≡ false) × (k < placeCount z) × (length (now archive) ≡ archiveLength z) ⌝ }
+    ensures { λ r. ⌜ ((i : ℕ) → i < z .m → at r i ≡ rowIn z (now (archive .entry)) k i) ⌝ }
+{
+    let mut row = [0u8; 16];
+    lists::store(archive, archive::record_start(z, k) + z.n, &mut row, 0, z.m);
+    row
+}
+
+// The rows of the first `count` of these places.
+pub fn rows_of(archive: &[u8], z: Sizes, places: [u8; 16], count: usize) -> [[u8; 16]; 16]
+    requires { ⌜ (sizesOutside z ≡ false) × (count ≤ z .m) × ((t : ℕ) → t < count → at places t < placeCount z) × (length (now archive) ≡ archiveLength z) ⌝ }
+    ensures { λ r. ⌜ ((t i : ℕ) → t < count → i < z .m → cells r t i ≡ rowIn z (now (archive .entry)) (at places t) i) ⌝ }
+{
+    let mut rows = [[0u8; 16]; 16];
+    for t in 0..count {
+        rows[t] = row_at(archive, z, lists::widen(places[t]));
+    }
+    rows
+}
+
+// The choice among the first k + 1 places, from that among the first k.
+fn consult(archive: &[u8], z: Sizes, c: Chosen, k: usize) -> Chosen
+    requires { ⌜ (sizesOutside z ≡ false) × (k < placeCount z) × (length (now archive) ≡ archiveLength z) × (c .count < z .m) × Choice z (now archive) k c ⌝ }
+    ensures { λ r. ⌜ Choice z (now (archive .entry)) (k + 1) r ⌝ }
+{
+    if !archive::marked(archive, k) {
+        return c;
+    }
+    let count = c.count;
+    let consulted = c.consulted + 1;
+    let mut places = c.places;
+    places[count] = (k % 256) as u8;
+    let rows = rows_of(archive, z, places, count + 1);
+    let reduced = linear::reduce(rows, count + 1, z.m);
+    if reduced.rank < count + 1 {
+        return Chosen {
+            count,
+            consulted,
+            places,
+        };
+    }
+    Chosen {
+        count: count + 1,
+        consulted,
+        places,
+    }
+}
+
+// The places taken, up to the m-th.
+pub fn choose(archive: &[u8], z: Sizes) -> Chosen
+    requires { ⌜ (badArchive (now archive) ≡ false) × (z ≡ sizesOf (now archive)) ⌝ }
+    ensures { λ r. ⌜ Complete z (now (archive .entry)) r ⌝ }
+{
+    let mut c = Chosen {
+        count: 0,
+        consulted: 0,
+        places: [0u8; 16],
+    };
+    for k in 0..z.nodes * z.places {
+        if c.count == z.m {
+            return c;
+        }
+        c = consult(archive, z, c, k);
+    }
+    c
+}

@@ -1,0 +1,54 @@
+// Read: the file, from the first places whose rows determine it.
+mod choosing;
+mod solving;
+
+ghost use mathlib.Core.Path.{_≡_};
+ghost use mathlib.Core.Bool.{false};
+ghost use lib.ListN.{length};
+ghost use Rattle.archive.specs.Layout.{sizesOf, badArchive};
+ghost use Rattle.archive.specs.Blocks.{fileLength};
+ghost use Rattle.archive.specs.Read.{ReadFor, ReadAllows};
+use answer::Refusal;
+use archive::Counted;
+use choosing::choose;
+use choosing::rows_of;
+use solving::solve;
+
+// The places taken, in order, and the number of filled places consulted.
+pub struct Chosen {
+    pub count: usize,
+    pub consulted: usize,
+    pub places: [u8; 16],
+}
+
+// The file and the number of places consulted, where the rows determine it.
+fn read_file(archive: &[u8], file: &mut [u8]) -> Counted
+    requires { ⌜ (badArchive (now archive) ≡ false) × (length (now file) ≡ fileLength (sizesOf (now archive))) ⌝ }
+    ensures { λ r. ⌜ ReadAllows (now (archive .entry)) (now (file .entry)) r (now (file .exit)) ⌝ }
+{
+    let z = archive::sizes_in(archive);
+    let c = choose(archive, z);
+    let places = c.places;
+    let rows = rows_of(archive, z, places, c.count);
+    let reduced = linear::reduce(rows, c.count, z.m);
+    if reduced.rank < z.m {
+        return Counted::Refused(Refusal::Unreadable);
+    }
+    let combinations = reduced.combinations;
+    solve(archive, z, places, combinations, file);
+    Counted::Count(c.consulted)
+}
+
+// The file of an archive, and how many filled places were consulted.
+pub fn read(archive: &[u8], file: &mut [u8]) -> Counted
+    ensures { λ r. ⌜ ReadAllows (now (archive .entry)) (now (file .entry)) r (now (file .exit)) ⌝ }
+{
+    if archive::bad_archive(archive) {
+        return Counted::Refused(Refusal::BadArchive);
+    }
+    let z = archive::sizes_in(archive);
+    if file.len() != z.m * (z.n - 2) {
+        return Counted::Refused(Refusal::Length);
+    }
+    read_file(archive, file)
+}

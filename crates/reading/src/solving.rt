@@ -1,0 +1,70 @@
+// The file, from the records of the places taken.
+ghost use mathlib.Core.Path.{_≡_};
+ghost use mathlib.Core.Bool.{false};
+ghost use Prim.Native.Nat.{ℕ, _+_, _-_, _<_, _≤_};
+ghost use lib.ListN.{length};
+ghost use Rattle.lists.specs.Lists.{at, grid};
+ghost use Rattle.field.specs.Tables.{PowerTable, LogTable};
+ghost use Rattle.tag.specs.Sizes.{sizesOutside};
+ghost use Rattle.tag.specs.Vectors.{mixed, added};
+ghost use Rattle.linear.specs.Elimination.{rowCells};
+ghost use Rattle.archive.specs.Layout.{placeCount, archiveLength, byteIn};
+ghost use Rattle.archive.specs.Blocks.{fileLength};
+use linear::Row;
+use tag::Sizes;
+
+// To the n - 2 bytes from `from` on, the data of m places is added, each times its coefficient.
+fn add_places(
+    powers: &[u8; 510],
+    logs: &[u8; 256],
+    archive: &[u8],
+    z: Sizes,
+    places: [u8; 16],
+    coefficients: [u8; 16],
+    file: &mut [u8],
+    from: usize,
+)
+    requires { ⌜ PowerTable (now powers) × LogTable (now logs) × (sizesOutside z ≡ false) × ((t : ℕ) → t < z .m → at places t < placeCount z) × (length (now archive) ≡ archiveLength z) × (from + (z .n - 2) ≤ length (now file)) ⌝ }
+    ensures { λ _. ⌜ now (file .exit) ≡ added (z .n - 2) from (mixed (z .m) (at coefficients) (λ t. byteIn z (now (archive .entry)) (at places t))) (now (file .entry)) ⌝ }
+{
+    let len = z.n - 2;
+    for t in 0..z.m {
+        let start = archive::record_start(z, lists::widen(places[t]));
+        tag::add_multiple(
+            powers,
+            logs,
+            coefficients[t],
+            archive,
+            start,
+            file,
+            from,
+            len,
+        );
+    }
+}
+
+// The m blocks without their padding: block i is the places' data combined by combination i.
+pub fn solve(archive: &[u8], z: Sizes, places: [u8; 16], combinations: [Row; 16], file: &mut [u8])
+    requires { ⌜ (sizesOutside z ≡ false) × ((t : ℕ) → t < z .m → at places t < placeCount z) × (length (now archive) ≡ archiveLength z) × (length (now file) ≡ fileLength z) ⌝ }
+    ensures { λ _. ⌜ now (file .exit) ≡ grid (z .m) (z .n - 2) 0 (λ i. mixed (z .m) (rowCells combinations i) (λ t. byteIn z (now (archive .entry)) (at places t))) (now (file .entry)) ⌝ }
+{
+    let pair = field::tables();
+    let powers = pair.powers;
+    let logs = pair.logs;
+    let len = z.n - 2;
+    for i in 0..z.m {
+        let row = combinations[i];
+        let coefficients = row.bytes;
+        lists::zero(file, i * len, len);
+        add_places(
+            &powers,
+            &logs,
+            archive,
+            z,
+            places,
+            coefficients,
+            file,
+            i * len,
+        );
+    }
+}
