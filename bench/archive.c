@@ -131,6 +131,7 @@ void archive(const uint8_t *key) {
     uint8_t coefficients[PLACES], message[13], refused = 0, consulted = 0;
     double encode[2] = {1e30, 1e30}, repair[2] = {1e30, 1e30}, prove[2] = {1e30, 1e30}, verdict[2] = {1e30, 1e30}, read[2] = {1e30, 1e30};
     int same[5] = {1, 1, 1, 1, 1};
+    make_tables();
     fill(file, FILE_LENGTH, 1), fill(padding, 2 * M, 2), fill(gammas, COEFFICIENTS, 3), fill(thetas, COEFFICIENTS, 4);
     fill(table, sizeof table, 5), fill(coefficients, PLACES, 6);
     refused |= span_setup(key, 32, key, 32, id, 8, N, auxiliary, N - 1);

@@ -78,4 +78,8 @@ uint8_t span_unmask(size_t n, const uint8_t *id, size_t id_len, const uint8_t *m
    *count. Refuses 3, 2. */
 uint8_t span_inventory(const uint8_t *archive, size_t archive_len, uint8_t *list, size_t list_len, uint8_t *count);
 
+/* The file of m(n-2) bytes, solved from the first filled places, by node, then place, whose rows determine it; how many filled places were
+   consulted into *consulted. Refuses 3, 2, 8. */
+uint8_t span_read(const uint8_t *archive, size_t archive_len, uint8_t *file, size_t file_len, uint8_t *consulted);
+
 #endif
