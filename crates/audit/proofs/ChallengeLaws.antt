@@ -14,7 +14,7 @@ use Rattle.lists.proofs.AnyLaws.{any-first, any-rest, any-below}
 use Rattle.answer.specs.declared.Outcome.the-variants.{Done}
 use Rattle.answer.specs.Refusals.{afterwards}
 use Rattle.answer.proofs.RefusalLaws.{accepted, same, inside}
-use Rattle.bits.specs.Fields.{Field, _wide_, widths, number, bytesFor, fieldAt}
+use Rattle.bits.specs.Fields.{Field, _wide_, widths, bytesFor, fieldAt}
 use Rattle.bits.proofs.NumberLaws.{number-same, number-zero}
 use Rattle.bits.proofs.PackLaws.{pack-length, pack-field, pack-spare}
 use Rattle.bits.proofs.AppendLaws.{widths-more}

@@ -4,79 +4,49 @@ use mathlib.Core.Path.{_≡_, refl, sym, ap, ap₂, _∙_}
 use mathlib.Core.Bool.{Bool, false}
 use mathlib.Core.List.{List, _∷_}
 use mathlib.Core.Logic.{⊎-elim}
-use native.Mathlib.Nat.{mul-le-mul-right}
 use native.Mathlib.Omega.{arith}
 use lib.Dec.{eqb}
-use lib.ListN.{length, replicate, getD-replicate}
-use borrow.Author.Tests.{lt-ltb, le-ltb, leb-false}
-use Rattle.lists.specs.Lists.{pick, at}
+use lib.ListN.{length, take, drop, length-take, length-drop, replicate}
+use lib.Seq.{getD-take, getD-drop}
+use borrow.Author.Tests.{lt-ltb, le-ltb}
+use Rattle.lists.specs.Lists.{pick, at, put}
 use Rattle.lists.proofs.TabLaws.{order}
-use Rattle.lists.proofs.AnyLaws.{any-first, any-rest, any-below}
+use Rattle.lists.proofs.AnyLaws.{any-first, any-rest}
 use Rattle.answer.specs.declared.Refusal.{Refusal}
 use Rattle.answer.specs.declared.Outcome.{Outcome}
 use Rattle.answer.specs.declared.Outcome.the-variants.{Done}
 use Rattle.answer.specs.declared.Outcome.the-variants.{Refused as RefusedOutcome}
 use Rattle.answer.proofs.RefusalLaws.{accepted, same}
-use Rattle.field.specs.Field.{plus, times}
-use Rattle.bits.specs.Fields.{fieldAt}
-use Rattle.keystream.specs.declared.stream.Stream.{Stream}
-use Rattle.keystream.specs.Draws.{fresh, drawn, after}
+use Rattle.field.specs.Field.{plus}
+use Rattle.keystream.specs.Draws.{byteAt}
 use Rattle.tag.specs.declared.Sizes.{Sizes}
 use Rattle.tag.specs.Sizes.{sizesOutside}
 use Rattle.tag.specs.KeyVector.{keyVector}
-use Rattle.tag.specs.Vectors.{product, mixed, added}
-use Rattle.tag.proofs.AddedLaws.{added-at, mixed-more}
-use Rattle.tag.proofs.StreamLaws.{after-add, key-drawn}
+use Rattle.tag.specs.Vectors.{product, added}
+use Rattle.tag.proofs.SizeLaws.{ranged}
 use Rattle.tag.proofs.VectorLaws.{product-same, product-keys, product-split}
 use Rattle.mask.specs.Response.{responseLength, dataIn, sumIn, tagIn}
-use Rattle.audit.specs.Challenge.{Challenge, challengeBits, challengeOf, malformedChallenge}
+use Rattle.mask.proofs.RowLaws.{vector-filled}
+use Rattle.audit.specs.Challenge.{challengeOf, malformedChallenge}
 use Rattle.audit.specs.Verdict.{notThere, verdictFor, namedRow, appended, accepts, judgement, verdictOf}
 use Rattle.audit.specs.declared.Judgement.the-variants.{Accepted, Rejected, Refused}
-use Rattle.audit.proofs.ReadLaws.{readable}
+use Rattle.audit.proofs.NamedLaws.{firstNamed, named-read}
 
--- ---- the rows of the named places
+-- ---- the product with the elements of a vector
 
--- the rows of the first `count` named places, combined
-abbrev pub firstRows : ℕ → List ℕ → Challenge → ℕ → ℕ → ℕ
-firstRows m rows c count = mixed count (at (c .coefficients)) (λ j e. at rows (at (c .places) j * m + e))
+-- the part of a list from `first` to `end`, its length and its elements
+abbrev part : ℕ → ℕ → List ℕ → List ℕ
+part first end s = take (end - first) (drop first s)
 
-module _ (z : Sizes) (message : List ℕ) (ok : malformedChallenge message ≡ false) where
-  abbrev c : Challenge
-  c = challengeOf message
+pub length-part : (first end : ℕ) (s : List ℕ) → end ≤ length s → length (part first end s) ≡ end - first
+length-part first end s h = simp (length-take, length-drop) (omega arith)
 
-  -- a row that is named is there
-  pub row-there : notThere z c ≡ false → (j : ℕ) → j < length (c .places) → {p : ℕ} → p ≡ fieldAt message (challengeBits j) 3
-      → p * z .m + z .m ≤ z .places * z .m
-  row-there e j h {p} q =
-      let low : at (c .places) j < z .places = leb-false _ _ (any-below (length (c .places)) _ (any-first _ _ (any-rest _ _ e)) j h) in
-      rw (q, ← readable message ok .place-is j h) (omega (arith, mul-le-mul-right (z .m) low))
+part-at : (first end : ℕ) (s : List ℕ) (e : ℕ) → e < end - first → at (part first end s) e ≡ at s (first + e)
+part-at first end s e h = getD-take (end - first) (drop first s) e 0 h ∙ getD-drop first s e 0
 
-  -- to zeros, j rows have been added: one more, all
-  pub row-more : (rows : List ℕ) (j : ℕ) {s t : List ℕ} {k p : ℕ} → j < length (c .places) → k ≡ fieldAt message (challengeBits j + 3) 8 → p ≡ fieldAt message (challengeBits j) 3
-      → z .m ≤ 16 → s ≡ added (z .m) 0 (firstRows (z .m) rows c j) (replicate 16 0) → t ≡ added (z .m) 0 (λ e. times k (at rows (p * z .m + e))) s
-      → t ≡ added (z .m) 0 (firstRows (z .m) rows c (j + 1)) (replicate 16 0)
-  row-more rows j h q r high before now =
-      let w = readable message ok in
-      mixed-more (z .m) 0 _ _ (replicate 16 0) j _ (omega arith) before now (λ e l.
-      ap₂ times (q ∙ sym (w .coefficient-is j h)) (ap (λ (p : ℕ). at rows (p * z .m + e)) (r ∙ sym (w .place-is j h))))
-
-  pub row-all : (rows : List ℕ) (j : ℕ) {s : List ℕ} → j ≡ length (c .places) → z .m ≤ 16 → s ≡ added (z .m) 0 (firstRows (z .m) rows c j) (replicate 16 0)
-      → (i : ℕ) → i < z .m → at s i ≡ namedRow z rows c i
-  unfolding namedRow
-  row-all rows j {s} e high f i h =
-      let q : 0 + i ≡ i = omega arith in
-      let v = firstRows (z .m) rows c j in
-      ap (λ (l : List ℕ). at l i) f ∙ rw q at (added-at (z .m) 0 v (replicate 16 0) i h (omega arith))
-      ∙ ap (λ (x : ℕ). plus x (v i)) (getD-replicate 16 i 0 0 (omega arith)) ∙ ap (λ (k : ℕ). firstRows (z .m) rows c k i) e
-
--- ---- the product with the bytes of a stream
-
-module _ (z : Sizes) (low : 3 ≤ z .n) (row response : List ℕ) (s : Stream) where
+module _ (z : Sizes) (low : 3 ≤ z .n) (row response vector : List ℕ) where
   abbrev n : ℕ
   n = z .n
-
-  abbrev bytes : Stream → ℕ → ℕ
-  bytes t e = drawn (after e t) .byte
 
   abbrev all : ℕ → ℕ
   all = appended n response (at row)
@@ -92,40 +62,40 @@ module _ (z : Sizes) (low : 3 ≤ z .n) (row response : List ℕ) (s : Stream) w
       let q : 13 + (n - 2 + e) ≡ n + 11 + e = omega arith in
       rw (lt-ltb (n - 2 + e) n (omega arith), le-ltb (n - 2 + e) (n - 2) (omega arith), q)
 
-  row-part : (e : ℕ) → all (n - 2 + 2 + e) ≡ at row (0 + e)
+  row-part : (e : ℕ) → all (n - 2 + 2 + e) ≡ at row e
   unfolding appended
   row-part e =
-      let q : n - 2 + 2 + e - n ≡ 0 + e = omega arith in
+      let q : n - 2 + 2 + e - n ≡ e = omega arith in
       rw (le-ltb (n - 2 + 2 + e) n (omega arith), q)
 
-  -- the bytes from byte a on are those of the stream after a draws
-  moved : (a e : ℕ) {t : Stream} → t ≡ after a s → bytes s (a + e) ≡ bytes t e
-  moved a e q = ap (λ (x : Stream). drawn x .byte) (after-add a e s ∙ ap (after e) (sym q))
-
   -- the products of the three parts add up to the product that Verdict compares
-  pub parts : {a b d : ℕ} {t u : Stream} → a ≡ product (n - 2) (λ e. at response (1 + e)) (bytes s) → t ≡ after (n - 2) s
-      → b ≡ product 2 (λ e. at response (n + 11 + e)) (bytes t) → u ≡ after 2 t → d ≡ product (z .m) (λ e. at row (0 + e)) (bytes u)
-      → eqb (plus (plus a b) d) (plus (tagIn n response) (sumIn n response)) ≡ accepts z (bytes s) (at row) response
+  pub parts : {a b d : ℕ} → a ≡ product (n - 2) (at (part 1 (n - 1) response)) (at vector)
+      → b ≡ product 2 (at (part (n + 11) (n + 13) response)) (at (part (n - 2) n vector)) → d ≡ product (z .m) (at row) (at (part n (n + z .m) vector))
+      → eqb (plus (plus a b) d) (plus (tagIn n response) (sumIn n response)) ≡ accepts z (at vector) (at row) response
   unfolding accepts
-  parts {a} {b} {d} {t} {u} p q r w x =
+  parts {a} {b} {d} p q r =
       let whole : z .n + z .m ≡ n - 2 + 2 + z .m = omega arith in
-      let v : u ≡ after (n - 2 + 2) s = w ∙ ap (after 2) q ∙ sym (after-add (n - 2) 2 s) in
-      let first : a ≡ product (n - 2) all (bytes s) = p ∙ sym (product-same (n - 2) _ _ _ masked-part) in
-      let second : b ≡ product 2 (λ e. all (n - 2 + e)) (λ e. bytes s (n - 2 + e)) =
-      r ∙ sym (product-same 2 _ _ _ clear-part ∙ product-keys 2 _ _ _ (λ e h. moved (n - 2) e q)) in
-      let third : d ≡ product (z .m) (λ e. all (n - 2 + 2 + e)) (λ e. bytes s (n - 2 + 2 + e)) =
-      x ∙ sym (product-same (z .m) _ _ _ (λ e h. row-part e) ∙ product-keys (z .m) _ _ _ (λ e h. moved (n - 2 + 2) e v)) in
-      ap (λ (k : ℕ). eqb k (plus (tagIn n response) (sumIn n response)))
-      (ap₂ plus (ap₂ plus first second ∙ sym (product-split (n - 2) 2 all (bytes s))) third
-      ∙ sym (product-split (n - 2 + 2) (z .m) all (bytes s)) ∙ ap (λ (k : ℕ). product k all (bytes s)) (sym whole))
+      let first : a ≡ product (n - 2) all (at vector) =
+      p ∙ product-same (n - 2) _ all _ (λ e h. part-at 1 (n - 1) response e (omega arith) ∙ sym (masked-part e h)) in
+      let second : b ≡ product 2 (λ e. all (n - 2 + e)) (λ e. at vector (n - 2 + e)) =
+      q ∙ product-same 2 _ _ _ (λ e h. part-at (n + 11) (n + 13) response e (omega arith) ∙ sym (clear-part e h))
+      ∙ product-keys 2 _ _ _ (λ e h. part-at (n - 2) n vector e (omega arith)) in
+      let third : d ≡ product (z .m) (λ e. all (n - 2 + 2 + e)) (λ e. at vector (n - 2 + 2 + e)) =
+      r ∙ product-same (z .m) _ _ _ (λ e h. sym (row-part e))
+      ∙ product-keys (z .m) _ _ _ (λ e h.
+      let w : n + e ≡ n - 2 + 2 + e = omega arith in
+      part-at n (n + z .m) vector e (omega arith) ∙ ap (at vector) w) in
+      ap (λ (x : ℕ). eqb x (plus (tagIn n response) (sumIn n response)))
+      (ap₂ plus (ap₂ plus first second ∙ sym (product-split (n - 2) 2 all (at vector))) third
+      ∙ sym (product-split (n - 2 + 2) (z .m) all (at vector)) ∙ ap (λ (x : ℕ). product x all (at vector)) (sym whole))
 
 -- over equal key elements and equal rows
-accepts-same : (z : Sizes) (v v′ u u′ : ℕ → ℕ) (response : List ℕ) → ((e : ℕ) → v e ≡ v′ e) → ((i : ℕ) → i < z .m → u i ≡ u′ i)
-    → accepts z v u response ≡ accepts z v′ u′ response
+accepts-same : (z : Sizes) (v v′ u u′ : ℕ → ℕ) (response : List ℕ) → ((e : ℕ) → e < z .n + z .m → v e ≡ v′ e)
+    → ((i : ℕ) → i < z .m → u i ≡ u′ i) → accepts z v u response ≡ accepts z v′ u′ response
 unfolding accepts appended
 accepts-same z v v′ u u′ response f g =
     ap (λ (k : ℕ). eqb k (plus (tagIn (z .n) response) (sumIn (z .n) response)))
-    (product-keys (z .n + z .m) _ v v′ (λ e h. f e) ∙ product-same (z .n + z .m) _ _ v′ (λ e h.
+    (product-keys (z .n + z .m) _ v v′ f ∙ product-same (z .n + z .m) _ _ v′ (λ e h.
     ⊎-elim (λ (l : e < z .n). rw (lt-ltb e (z .n) l)) (λ (l : z .n ≤ e). rw (le-ltb e (z .n) l) (g (e - z .n) (omega arith))) (order e (z .n))))
 
 -- ---- what Verdict's answer tells, and what is judged then
@@ -161,14 +131,25 @@ module _ (key id : List ℕ) (z : Sizes) (rows message response : List ℕ) wher
         there = accepted _ _ _ (three .1) .0;
       }
 
-  pub verdict-judged : answer ≡ Done → (row : List ℕ) (b : Bool) {k nonce : List ℕ} {s : Stream} {t : Bool} → k ≡ key → nonce ≡ 1 ∷ 0 ∷ 0 ∷ 0 ∷ id → s ≡ fresh k nonce
-      → ((i : ℕ) → i < z .m → at row i ≡ namedRow z rows (challengeOf message) i) → t ≡ accepts z (λ e. drawn (after e s) .byte) (at row) response → t ≡ b
+  -- the rows of the named places, as they were added to zeros
+  row-named : {row : List ℕ} → sizesOutside z ≡ false
+      → row ≡ added (z .m) 0 (firstNamed (challengeOf message) rows 0 (z .m) (length (challengeOf message .places))) (replicate 16 0)
+      → (i : ℕ) → i < z .m → at row i ≡ namedRow z rows (challengeOf message) i
+  unfolding namedRow
+  row-named sized f = named-read (challengeOf message) rows 0 16 (z .m) _ (ranged z sized .m-high) f (λ j e. ap (at rows) (omega arith))
+
+  pub verdict-judged : answer ≡ Done → (before : List ℕ) (count : ℕ) (b : Bool) {k nonce row vector : List ℕ} {t : Bool}
+      → k ≡ key → nonce ≡ 1 ∷ 0 ∷ 0 ∷ 0 ∷ id → z .n + z .m ≤ 64 * count → 64 * count ≤ length before
+      → vector ≡ put (64 * count) 0 (byteAt k nonce) before
+      → row ≡ added (z .m) 0 (firstNamed (challengeOf message) rows 0 (z .m) (length (challengeOf message .places))) (replicate 16 0)
+      → t ≡ accepts z (at vector) (at row) response → t ≡ b
       → pick b Accepted Rejected ≡ verdictOf key id z rows message response
   unfolding verdictOf judgement
-  verdict-judged e row b {s = s} p q r named w tested =
-      let first : s ≡ fresh key (1 ∷ 0 ∷ 0 ∷ 0 ∷ id) = r ∙ ap₂ fresh p q in
-      let vector : (i : ℕ) → drawn (after i s) .byte ≡ keyVector key id i = λ i. key-drawn key id i (ap (after i) first) refl .0 in
-      rw (e, ← accepts-same z _ (keyVector key id) _ (namedRow z rows (challengeOf message)) response vector named, ← w, tested)
+  verdict-judged e before count b {k} {nonce} {row} {vector} p q enough fits filled named w tested =
+      let elements : (i : ℕ) → i < z .n + z .m → at vector i ≡ keyVector key id i =
+      λ i l. vector-filled k nonce count i before fits filled (omega arith) id q ∙ ap (λ (x : List ℕ). keyVector x id i) p in
+      let same = accepts-same z _ (keyVector key id) _ (namedRow z rows (challengeOf message)) response elements (row-named (verdict-tells e .sized) named) in
+      rw (e, ← same, ← w, tested)
 
   pub verdict-refused : {r : Refusal} → answer ≡ RefusedOutcome r → Refused r ≡ verdictOf key id z rows message response
   unfolding verdictOf judgement

@@ -3,4 +3,5 @@ pub mod VerdictLaws
 pub mod RuleLaws
 pub mod MessageLaws
 pub mod ReadLaws
+pub mod NamedLaws
 pub mod JudgeLaws

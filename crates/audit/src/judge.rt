@@ -1,26 +1,21 @@
 // Verdict: the auditor's judgement on a response.
 ghost use mathlib.Core.Path.{_≡_};
 ghost use mathlib.Core.Bool.{false};
-ghost use Prim.Native.Nat.{ℕ, _+_, _*_, _<_, _≤_};
 ghost use lib.ListN.{length};
 ghost use Rattle.lists.specs.Lists.{at};
 ghost use Rattle.answer.specs.Refusals.{Passed};
 ghost use Rattle.field.specs.Tables.{PowerTable, LogTable};
-ghost use Rattle.keystream.specs.Draws.{drawn, after};
 ghost use Rattle.tag.specs.Sizes.{sizesOutside};
 ghost use Rattle.mask.specs.Response.{responseLength};
 ghost use Rattle.audit.specs.Challenge.{challengeOf, malformedChallenge};
-ghost use Rattle.audit.specs.Verdict.{judgementNumber, notThere, verdictFor, namedRow, accepts, verdictOf};
+ghost use Rattle.audit.specs.Verdict.{judgementNumber, verdictFor, accepts, verdictOf};
 use crate::Judgement;
-use crate::message::coefficient_in;
-use crate::message::count_in;
+use crate::message::add_named;
 use crate::message::malformed;
 use crate::message::node_in;
 use crate::message::not_there;
-use crate::message::place_in;
 use answer::Outcome;
 use answer::Refusal;
-use keystream::Stream;
 use tag::Sizes;
 
 // The number of a judgement.
@@ -67,52 +62,29 @@ fn verdict_check(
     Outcome::Done
 }
 
-// The rows of the named places combined by the challenge.
-fn named_row(
-    powers: &[u8; 510],
-    logs: &[u8; 256],
-    z: Sizes,
-    rows: &[u8],
-    message: &[u8],
-) -> [u8; 16]
-    requires { ⌜ PowerTable (now powers) × LogTable (now logs) × (sizesOutside z ≡ false) × (malformedChallenge (now message) ≡ false) × (length (now rows) ≡ z .places * z .m) × (notThere z (challengeOf (now message)) ≡ false) ⌝ }
-    ensures { λ r. ⌜ ((i : ℕ) → i < z .m → at r i ≡ namedRow z (now (rows .entry)) (challengeOf (now (message .entry))) i) ⌝ }
-{
-    let m = z.m;
-    let mut row = [0u8; 16];
-    for j in 0..count_in(message) {
-        let c = coefficient_in(message, j);
-        tag::add_multiple(
-            powers,
-            logs,
-            c,
-            rows,
-            place_in(message, j) * m,
-            &mut row,
-            0,
-            m,
-        );
-    }
-    row
-}
-
-// Whether the data elements and the row, times the bytes of a stream, give tag plus mask sum.
+// Whether the data elements and the row, times the elements of a vector, give tag plus mask sum.
 fn agrees(
     powers: &[u8; 510],
     logs: &[u8; 256],
     z: Sizes,
     row: &[u8],
     response: &[u8],
-    s: Stream,
+    vector: &[u8],
 ) -> bool
-    requires { ⌜ PowerTable (now powers) × LogTable (now logs) × (sizesOutside z ≡ false) × (length (now row) ≡ 16) × (length (now response) ≡ responseLength (z .n)) ⌝ }
-    ensures { λ r. ⌜ r ≡ accepts z (λ e. drawn (after e s) .byte) (at (now (row .entry))) (now (response .entry)) ⌝ }
+    requires { ⌜ PowerTable (now powers) × LogTable (now logs) × (sizesOutside z ≡ false) × (length (now row) ≡ 16) × (length (now response) ≡ responseLength (z .n)) × (length (now vector) ≡ 1088) ⌝ }
+    ensures { λ r. ⌜ r ≡ accepts z (at (now (vector .entry))) (at (now (row .entry))) (now (response .entry)) ⌝ }
 {
     let n = z.n;
-    let masked = tag::product_drawn(powers, logs, response, 1, n - 2, s);
-    let clear = tag::product_drawn(powers, logs, response, n + 11, 2, masked.stream);
-    let tail = tag::product_drawn(powers, logs, row, 0, z.m, clear.stream);
-    masked.total ^ clear.total ^ tail.total == response[n + 13] ^ response[n + 10]
+    let masked = tag::product_of(powers, logs, &response[1..n - 1], vector, n - 2);
+    let clear = tag::product_of(
+        powers,
+        logs,
+        &response[n + 11..n + 13],
+        &vector[n - 2..n],
+        2,
+    );
+    let tail = tag::product_of(powers, logs, row, &vector[n..n + z.m], z.m);
+    masked ^ clear ^ tail == response[n + 13] ^ response[n + 10]
 }
 
 // The judgement where nothing is refused.
@@ -130,9 +102,16 @@ fn judged(
     let pair = field::tables();
     let powers = pair.powers;
     let logs = pair.logs;
-    let row = named_row(&powers, &logs, z, rows, message);
-    let s = Stream::new(tag::key_array(key), tag::id_nonce(1, 0, 0, 0, id));
-    if agrees(&powers, &logs, z, &row, response, s) {
+    let mut row = [0u8; 16];
+    add_named(&powers, &logs, message, rows, 0, &mut row, z.m);
+    let mut vector = [0u8; 1088];
+    keystream::fill(
+        tag::key_array(key),
+        tag::id_nonce(1, 0, 0, 0, id),
+        &mut vector,
+        (z.n + z.m) / 64 + 1,
+    );
+    if agrees(&powers, &logs, z, &row, response, &vector) {
         Judgement::Accepted
     } else {
         Judgement::Rejected

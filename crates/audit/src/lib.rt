@@ -5,6 +5,7 @@ mod message;
 use answer::Refusal;
 pub use judge::number;
 pub use judge::verdict;
+pub use message::add_named;
 pub use message::challenge;
 pub use message::coefficient_in;
 pub use message::count_in;

@@ -1,11 +1,13 @@
 // The challenge message: written by Challenge, read by Prove and Verdict.
 ghost use mathlib.Core.Path.{_≡_};
 ghost use mathlib.Core.Bool.{false};
-ghost use Prim.Native.Nat.{_+_, _-_, _*_, _<_, _≤_};
+ghost use Prim.Native.Nat.{ℕ, _+_, _-_, _*_, _<_, _≤_};
 ghost use lib.ListN.{length};
 ghost use lib.Dec.{ltb, leb};
 ghost use Rattle.lists.specs.Lists.{at, anyBelow};
+ghost use Rattle.field.specs.Tables.{PowerTable, LogTable};
 ghost use Rattle.bits.specs.Fields.{fieldAt};
+ghost use Rattle.tag.specs.Vectors.{mixed, added};
 ghost use Rattle.audit.specs.Challenge.{challengeFor, challengeBits, challengeLength, challengeBytes, outOfRule, challengeOf, malformedChallenge, challengeAnswer, challengeOut};
 ghost use Rattle.audit.specs.Verdict.{notThere};
 use answer::Outcome;
@@ -200,4 +202,32 @@ pub fn not_there(z: Sizes, message: &[u8]) -> bool
     ensures { λ r. ⌜ r ≡ notThere z (challengeOf (now (message .entry))) ⌝ }
 {
     (z.nodes <= node_in(message)) | any_past(message, z.places)
+}
+
+// Adds the vectors of its places, each times its coefficient. Vector p of u stands at start + p * len.
+pub fn add_named(
+    powers: &[u8; 510],
+    logs: &[u8; 256],
+    message: &[u8],
+    u: &[u8],
+    start: usize,
+    out: &mut [u8],
+    len: usize,
+)
+    requires { ⌜ PowerTable (now powers) × LogTable (now logs) × (malformedChallenge (now message) ≡ false) × ((j : ℕ) → j < length (challengeOf (now message) .places) → start + at (challengeOf (now message) .places) j * len + len ≤ length (now u)) × (len ≤ length (now out)) ⌝ }
+    ensures { λ _. ⌜ now (out .exit) ≡ added len 0 (mixed (length (challengeOf (now (message .entry)) .places)) (at (challengeOf (now (message .entry)) .coefficients)) (λ j e. at (now (u .entry)) (start + at (challengeOf (now (message .entry)) .places) j * len + e))) (now (out .entry)) ⌝ }
+{
+    for j in 0..count_in(message) {
+        let first = start + place_in(message, j) * len;
+        tag::add_multiple(
+            powers,
+            logs,
+            coefficient_in(message, j),
+            u,
+            first,
+            out,
+            0,
+            len,
+        );
+    }
 }

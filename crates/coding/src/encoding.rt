@@ -113,7 +113,7 @@ fn fill_place(
     set_marks(archive, k, 1, true);
     write_block(&powers, &logs, z, file, padding, row, archive, start);
     let tag = tag::product_drawn(&powers, &logs, archive, start, z.n + z.m, vector);
-    archive[start + z.n + z.m] = tag.total;
+    archive[start + z.n + z.m] = tag;
 }
 
 // Fills a place of a node (document 01: box) with the source blocks combined by a row, and the tag of that block.

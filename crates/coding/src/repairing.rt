@@ -4,7 +4,7 @@ ghost use mathlib.Core.Bool.{false, not};
 ghost use Prim.Native.Nat.{_+_, _*_, _<_, _≤_};
 ghost use lib.ListN.{length};
 ghost use lib.Dec.{leb};
-ghost use Rattle.lists.specs.Lists.{at, anyBelow, grid};
+ghost use Rattle.lists.specs.Lists.{pick, at, anyBelow, grid};
 ghost use Rattle.answer.specs.Refusals.{Passed};
 ghost use Rattle.tag.specs.Sizes.{sizesOutside};
 ghost use Rattle.tag.specs.Vectors.{mixed};
@@ -34,28 +34,14 @@ fn any_missing(helpers: &[u8], nodes: usize) -> bool
     false
 }
 
-// Whether a place of a node is filled.
-fn any_filled(archive: &[u8], z: Sizes, node: usize) -> bool
+// Whether a place of a node is filled; where `filled` is false, whether one is empty.
+fn any_place(archive: &[u8], z: Sizes, node: usize, filled: bool) -> bool
     requires { ⌜ (sizesOutside z ≡ false) × (node < z .nodes) × (18 ≤ length (now archive)) ⌝ }
-    ensures { λ r. ⌜ r ≡ anyBelow (z .places) (λ k. filledIn z (now (archive .entry)) node k) ⌝ }
+    ensures { λ r. ⌜ r ≡ anyBelow (z .places) (λ k. pick filled (filledIn z (now (archive .entry)) node k) (not (filledIn z (now (archive .entry)) node k))) ⌝ }
 {
     let places = z.places;
     for k in 0..places {
-        if marked(archive, node * places + k) {
-            return true;
-        }
-    }
-    false
-}
-
-// Whether a place of a node is empty.
-fn any_empty(archive: &[u8], z: Sizes, node: usize) -> bool
-    requires { ⌜ (sizesOutside z ≡ false) × (node < z .nodes) × (18 ≤ length (now archive)) ⌝ }
-    ensures { λ r. ⌜ r ≡ anyBelow (z .places) (λ k. not (filledIn z (now (archive .entry)) node k)) ⌝ }
-{
-    let places = z.places;
-    for k in 0..places {
-        if !marked(archive, node * places + k) {
+        if marked(archive, node * places + k) == filled {
             return true;
         }
     }
@@ -68,7 +54,7 @@ fn any_helper_empty(archive: &[u8], z: Sizes, helpers: &[u8]) -> bool
     ensures { λ r. ⌜ r ≡ anyBelow (length (now (helpers .entry))) (λ i. anyBelow (z .places) (λ l. not (filledIn z (now (archive .entry)) (at (now (helpers .entry)) i) l))) ⌝ }
 {
     for i in 0..helpers.len() {
-        if any_empty(archive, z, lists::widen(helpers[i])) {
+        if any_place(archive, z, lists::widen(helpers[i]), false) {
             return true;
         }
     }
@@ -105,7 +91,7 @@ fn repair_check(
     if (z.nodes <= target) | any_missing(helpers, z.nodes) {
         return Outcome::Refused(Refusal::NoSuchPlace);
     }
-    if any_filled(archive, z, target) {
+    if any_place(archive, z, target, true) {
         return Outcome::Refused(Refusal::PlaceFilled);
     }
     if any_helper_empty(archive, z, helpers) {

@@ -107,6 +107,5 @@ pub fn mask_sum(key: [u8; 32], seed: &[u8], n: usize, elements: &[u8]) -> u8
     let powers = pair.powers;
     let logs = pair.logs;
     let coefficients = Stream::new(key, seed_nonce(seed));
-    let sum = tag::product_drawn(&powers, &logs, elements, 0, n - 1, coefficients);
-    sum.total
+    tag::product_drawn(&powers, &logs, elements, 0, n - 1, coefficients)
 }

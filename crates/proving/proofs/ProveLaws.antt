@@ -1,41 +1,94 @@
--- The places that a challenge names, and their records combined: what Prove reads. Assumes nothing.
-use Prim.Native.Nat.{ℕ, _+_, _*_, _<_, _≤_}
-use mathlib.Core.Path.{_≡_, refl, sym, ap, ap₂, _∙_}
-use mathlib.Core.Bool.{Bool, false, not}
+-- Prove's refusals as its check finds them; the places that a challenge names, and their records combined. Assumes nothing.
+use Prim.Native.Nat.{ℕ, _+_, _-_, _*_, _<_, _≤_}
+use mathlib.Core.Path.{_≡_, sym, ap, _∙_}
+use mathlib.Core.Bool.{Bool, true, false, not, _||_}
 use mathlib.Core.List.{List}
 use native.Mathlib.Nat.{mul-le-mul}
 use native.Mathlib.Omega.{arith}
-use lib.ListN.{length, replicate, getD-replicate}
+use lib.ListN.{length, replicate}
 use borrow.Author.Tests.{leb-false}
-use Rattle.lists.specs.Lists.{at}
-use Rattle.lists.proofs.AnyLaws.{any-first, any-rest, any-below}
-use Rattle.field.specs.Field.{plus, times}
+use Rattle.lists.specs.Lists.{at, anyBelow}
+use Rattle.lists.proofs.AnyLaws.{any-first}
+use Rattle.answer.specs.declared.Outcome.{Outcome}
+use Rattle.answer.specs.declared.Outcome.the-variants.{Done, Refused}
+use Rattle.answer.specs.declared.Refusal.the-variants.{Length, BadArchive, NoSuchPlace, PlaceEmpty, Malformed}
+use Rattle.answer.specs.Refusals.{differs}
+use Rattle.answer.proofs.RefusalLaws.{refused, passed}
 use Rattle.bits.specs.Fields.{fieldAt}
 use Rattle.tag.specs.declared.Sizes.{Sizes}
-use Rattle.tag.specs.Vectors.{mixed, added}
-use Rattle.tag.proofs.AddedLaws.{added-at, mixed-more}
+use Rattle.tag.specs.Vectors.{added}
 use Rattle.audit.specs.Challenge.{Challenge, challengeBits, challengeOf, malformedChallenge}
 use Rattle.audit.specs.Verdict.{notThere}
 use Rattle.audit.proofs.ReadLaws.{readable}
-use Rattle.archive.specs.Layout.{placeCount, recordLength, placeNumber, recordStart, sizesOf, byteIn, badArchive}
-use Rattle.archive.specs.Prove.{namedByte}
+use Rattle.audit.proofs.NamedLaws.{firstNamed, place-there, named-read}
+use Rattle.archive.specs.Layout.{placeCount, recordLength, placeNumber, recordStart, sizesOf, filledIn, byteIn, badArchive}
+use Rattle.archive.specs.Prove.{proveFor, proveAnswer, namedByte}
 use Rattle.archive.proofs.SizeLaws.{number-low, count-low, record-fits}
 use Rattle.archive.proofs.GoodLaws.{good-sizes, good-length}
+use Rattle.archive.proofs.ProveCheckLaws.{lengths-read}
 
--- the records of the first j named places, combined
-abbrev pub firstRecords : List ℕ → Challenge → ℕ → ℕ → ℕ
-firstRecords s c j = mixed j (at (c .coefficients)) (λ i. byteIn (sizesOf s) s (placeNumber (sizesOf s) (c .node) (at (c .places) i)))
+-- ---- the refusals one by one, as the code finds their tests
+
+-- the test of what is named, over the sizes that were read
+pub there-read : (s message : List ℕ) {z : Sizes} {absent t : Bool} → z ≡ sizesOf s → absent ≡ notThere z (challengeOf message) → absent ≡ t
+    → notThere (sizesOf s) (challengeOf message) ≡ t
+there-read s message zs ts e = rw (← zs) (sym ts ∙ e)
+
+module _ (s maskKey elements seed message out : List ℕ) where
+  abbrev answer : Outcome
+  answer = proveAnswer s maskKey elements seed message out
+
+  abbrev wrongLength : Sizes → Bool
+  wrongLength z = ((differs (length maskKey) 32 || differs (length elements) (z .n - 1)) || differs (length seed) 11) || differs (length out) (z .n + 14)
+
+  module _ {bad : Bool} (bs : bad ≡ badArchive s) where
+    pub refused-bad : bad ≡ true → Refused BadArchive ≡ answer
+    unfolding proveAnswer
+    refused-bad e = sym (refused _ _ (sym bs ∙ e))
+
+    module _ (good : bad ≡ false) {malformed : Bool} (ms : malformed ≡ malformedChallenge message) where
+      pub refused-malformed : malformed ≡ true → Refused Malformed ≡ answer
+      unfolding proveAnswer
+      refused-malformed e = sym (passed _ _ (sym bs ∙ good) ∙ refused _ _ (sym ms ∙ e))
+
+      -- the rest of the refusals
+      read : malformed ≡ false → answer ≡ proveFor (sizesOf s) (filledIn (sizesOf s) s) maskKey elements seed (challengeOf message) out
+      unfolding proveAnswer
+      read formed = passed _ _ (sym bs ∙ good) ∙ passed _ _ (sym ms ∙ formed)
+
+      module _ (formed : malformed ≡ false) {z : Sizes} (zs : z ≡ sizesOf s) where
+        pub refused-length : wrongLength z ≡ true → Refused Length ≡ answer
+        unfolding proveFor
+        refused-length e = sym (read formed ∙ refused _ _ (lengths-read s maskKey elements seed message out zs e))
+
+        module _ (lengths : wrongLength z ≡ false) {absent : Bool} (ts : absent ≡ notThere z (challengeOf message)) where
+          pub refused-absent : absent ≡ true → Refused NoSuchPlace ≡ answer
+          unfolding proveFor
+          refused-absent e =
+              sym (read formed ∙ passed _ _ (lengths-read s maskKey elements seed message out zs lengths) ∙ refused _ _ (there-read s message zs ts e))
+
+          module _ (there : absent ≡ false) {empty : Bool}
+              (es : empty ≡ anyBelow (length (challengeOf message .places)) (λ j.
+              not (filledIn (sizesOf s) s (challengeOf message .node) (at (challengeOf message .places) j)))) where
+            pub refused-empty : empty ≡ true → Refused PlaceEmpty ≡ answer
+            unfolding proveFor
+            refused-empty e =
+                sym (
+                read formed ∙ passed _ _ (lengths-read s maskKey elements seed message out zs lengths) ∙ passed _ _ (there-read s message zs ts there)
+                ∙ refused _ _ (sym es ∙ e))
+
+            pub not-refused : empty ≡ false → Done ≡ answer
+            unfolding proveFor
+            not-refused e =
+                sym (
+                read formed ∙ passed _ _ (lengths-read s maskKey elements seed message out zs lengths) ∙ passed _ _ (there-read s message zs ts there)
+                ∙ passed _ _ (sym es ∙ e))
+
+-- ---- the named places
 
 -- the first place of a node that a challenge can name
 pub first-low : (s : List ℕ) {sizes : Sizes} {node : ℕ} → badArchive s ≡ false → sizes ≡ sizesOf s → node ≤ 5 → node * sizes .places ≤ 40
 first-low s {sizes} {node} good e h = mul-le-mul {n₂ = 5} {m₂ = 8} h (rw e (good-sizes s good .places-high))
-
--- item j of a challenge is in its message
-pub item-fits : (message : List ℕ) (j : ℕ) → malformedChallenge message ≡ false → j < length (challengeOf message .places)
-    → (j < 8) × (challengeBits (j + 1) ≤ 8 * length message)
-item-fits message j ok h =
-    let r = readable message ok in
-    (omega (arith, r .count-low), omega (arith, r .items-fit))
 
 module _ (s message : List ℕ) (good : badArchive s ≡ false) (ok : malformedChallenge message ≡ false)
     (there : notThere (sizesOf s) (challengeOf message) ≡ false) where
@@ -52,10 +105,9 @@ module _ (s message : List ℕ) (good : badArchive s ≡ false) (ok : malformedC
   abbrev named : ℕ → ℕ
   named j = placeNumber z (c .node) (at (c .places) j)
 
-  pub named-there : (j : ℕ) → j < count → named j < placeCount z
+  named-there : (j : ℕ) → j < count → named j < placeCount z
   named-there j h =
-      number-low z (good-sizes s good) (c .node) (at (c .places) j) (leb-false _ _ (any-first _ _ there))
-      (leb-false _ _ (any-below count _ (any-first _ _ (any-rest _ _ there)) j h))
+      number-low z (good-sizes s good) (c .node) (at (c .places) j) (leb-false _ _ (any-first _ _ there)) (place-there z message there j h)
 
   -- as code computes it
   module _ (j : ℕ) (h : j < count) {sizes : Sizes} {node p : ℕ} (e : sizes ≡ z) (f : node ≡ c .node) (g : p ≡ fieldAt message (challengeBits j) 3) where
@@ -65,32 +117,23 @@ module _ (s message : List ℕ) (good : badArchive s ≡ false) (ok : malformedC
     pub number-fits : node * sizes .places + p < 48
     number-fits = omega (arith, number-is, named-there j h, count-low z (good-sizes s good))
 
-  -- the record of the j-th named place, as code finds it
-  pub record-there : (j : ℕ) → j < count → {sizes : Sizes} {k start len : ℕ} → sizes ≡ z → k ≡ named j → start ≡ recordStart sizes k → len ≡ recordLength sizes
-      → (start ≡ recordStart z (named j)) × (len ≡ recordLength z) × (start + len ≤ length s)
-  record-there j h {sizes} {k} {start} {len} e f a l =
-      let first : start ≡ recordStart z (named j) = a ∙ ap₂ recordStart e f in
-      let long : len ≡ recordLength z = l ∙ ap recordLength e in
-      (first, long, rw (first, long, good-length s good) (record-fits z (named j) (named-there j h)))
+  -- the records of the named node, as code finds them
+  module _ {sizes : Sizes} {node start len : ℕ} (e : sizes ≡ z) (f : node ≡ c .node) (a : start ≡ recordStart sizes (node * sizes .places))
+      (l : len ≡ recordLength sizes) where
+    start-is : start ≡ recordStart z (c .node * z .places)
+    start-is = a ∙ rw (e, f)
 
-  record-low : recordLength z ≤ 1041
-  record-low = let R = good-sizes s good in omega (arith, R .n-high, R .m-high)
+    length-is : len ≡ recordLength z
+    length-is = l ∙ ap recordLength e
 
-  -- to zeros, j records have been added: one more, all
-  pub named-more : (j : ℕ) {len start k : ℕ} {t r : List ℕ} → j < count → len ≡ recordLength z → start ≡ recordStart z (named j)
-      → k ≡ fieldAt message (challengeBits j + 3) 8 → t ≡ added (recordLength z) 0 (firstRecords s c j) (replicate 1041 0)
-      → r ≡ added len 0 (λ e. times k (at s (start + e))) t → r ≡ added (recordLength z) 0 (firstRecords s c (j + 1)) (replicate 1041 0)
-  unfolding byteIn
-  named-more j {start = start} {k = k} {t = t} h l a q before now =
-      mixed-more (recordLength z) 0 _ _ (replicate 1041 0) j (λ e. times k (at s (start + e))) (omega (arith, record-low)) before
-      (now ∙ ap (λ (x : ℕ). added x 0 (λ e. times k (at s (start + e))) t) l) (λ e b.
-      ap₂ times (q ∙ sym (readable message ok .coefficient-is j h)) (ap (λ (x : ℕ). at s (x + e)) a))
+    pub records-there : (j : ℕ) → j < count → start + at (c .places) j * len + len ≤ length s
+    records-there j h = rw (start-is, length-is, good-length s good) (omega (arith, record-fits z (named j) (named-there j h)))
 
-  pub named-all : (j : ℕ) {t : List ℕ} → j ≡ count → t ≡ added (recordLength z) 0 (firstRecords s c j) (replicate 1041 0)
-      → (e : ℕ) → e < recordLength z → at t e ≡ namedByte z s c e
-  unfolding namedByte
-  named-all j {t} q f e h =
-      let zero : 0 + e ≡ e = omega arith in
-      ap (λ (l : List ℕ). at l e) f ∙ rw zero at (added-at (recordLength z) 0 (firstRecords s c j) (replicate 1041 0) e h (omega (arith, record-low)))
-      ∙ ap (λ (x : ℕ). plus x (firstRecords s c j e)) (getD-replicate 1041 e 0 0 (omega (arith, record-low)))
-      ∙ ap (λ (k : ℕ). firstRecords s c k e) q
+    -- those of the named places, as they were added to zeros
+    pub records-named : {t : List ℕ} → t ≡ added len 0 (firstNamed c s start len count) (replicate 1041 0)
+        → (i : ℕ) → i < recordLength z → at t i ≡ namedByte z s c i
+    unfolding namedByte byteIn
+    records-named made i h =
+        let R = good-sizes s good in
+        named-read c s start 1041 len _ (omega (arith, length-is, R .n-high, R .m-high)) made
+        (λ j p. ap (at s) (rw (start-is, length-is) (omega arith))) i (omega (arith, length-is))

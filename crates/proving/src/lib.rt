@@ -74,22 +74,17 @@ fn named_record(powers: &[u8; 510], logs: &[u8; 256], archive: &[u8], message: &
     ensures { λ r. ⌜ ((e : ℕ) → e < recordLength (sizesOf (now (archive .entry))) → at r e ≡ namedByte (sizesOf (now (archive .entry))) (now (archive .entry)) (challengeOf (now (message .entry))) e) ⌝ }
 {
     let z = sizes_in(archive);
-    let len = record_length(z);
-    let first = audit::node_in(message) * z.places;
+    let start = record_start(z, audit::node_in(message) * z.places);
     let mut record = [0u8; 1041];
-    for j in 0..audit::count_in(message) {
-        let start = record_start(z, first + audit::place_in(message, j));
-        tag::add_multiple(
-            powers,
-            logs,
-            audit::coefficient_in(message, j),
-            archive,
-            start,
-            &mut record,
-            0,
-            len,
-        );
-    }
+    audit::add_named(
+        powers,
+        logs,
+        message,
+        archive,
+        start,
+        &mut record,
+        record_length(z),
+    );
     record
 }
 

@@ -1,8 +1,7 @@
 -- The steps of a loop that draws one byte a turn, and the key vector as the bytes of F1's stream. Assumes nothing.
-use Prim.Native.Nat.{ℕ, zero, suc, _+_, _-_}
+use Prim.Native.Nat.{ℕ, _+_, _-_}
 use mathlib.Core.Path.{_≡_, refl, ap, _∙_}
 use mathlib.Core.List.{List, _∷_}
-use native.Mathlib.Nat.{add-zero, add-suc}
 use native.Mathlib.Numerals.{add-one}
 use native.Mathlib.Omega.{arith}
 use Rattle.lists.specs.Lists.{tab}
@@ -21,12 +20,6 @@ pub after-more : (i : ℕ) (s : Stream) {t : Stream} {d : Drawn} → t ≡ after
     → (d .byte ≡ drawn (after i s) .byte) × (d .stream ≡ after (i + 1) s)
 unfolding after
 after-more i s p q = (ap (λ (x : Drawn). x .byte) (q ∙ ap drawn p), rw add-one (ap (λ (x : Drawn). x .stream) (q ∙ ap drawn p)))
-
--- a draws, and then b more
-pub after-add : (a b : ℕ) (s : Stream) → after (a + b) s ≡ after b (after a s)
-unfolding after
-after-add a zero s = rw add-zero
-after-add a (suc b) s = rw add-suc (ap (λ (t : Stream). drawn t .stream) (after-add a b s))
 
 -- the bytes drawn from F1's stream are the key vector
 pub vector-drawn : (n : ℕ) (key id : List ℕ) → tab n (λ i. drawn (after i (fresh key (1 ∷ 0 ∷ 0 ∷ 0 ∷ id))) .byte) ≡ tab n (keyVector key id)

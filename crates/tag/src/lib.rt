@@ -1,7 +1,6 @@
 // Key vectors and tags (NC-Audit): the sizes of an archive, F1, and the tag of a block.
 mod products;
 
-pub use products::Summed;
 pub use products::add_multiple;
 pub use products::combine;
 pub use products::product_drawn;

@@ -9,12 +9,6 @@ ghost use Rattle.keystream.specs.Draws.{drawn, after};
 ghost use Rattle.tag.specs.Vectors.{product, mixed, added};
 use keystream::Stream;
 
-// A product, and the stream behind the bytes that were drawn for it.
-pub struct Summed {
-    pub total: u8,
-    pub stream: Stream,
-}
-
 // The product of the first len bytes of two vectors.
 pub fn product_of(powers: &[u8; 510], logs: &[u8; 256], u: &[u8], v: &[u8], len: usize) -> u8
     requires { ⌜ PowerTable (now powers) × LogTable (now logs) × (len ≤ length (now u)) × (len ≤ length (now v)) ⌝ }
@@ -35,10 +29,9 @@ pub fn product_drawn(
     first: usize,
     len: usize,
     s: Stream,
-) -> Summed
+) -> u8
     requires { ⌜ PowerTable (now powers) × LogTable (now logs) × (first + len ≤ length (now u)) ⌝ }
-    ensures total { λ r. ⌜ r .total ≡ product len (λ e. at (now (u .entry)) (first + e)) (λ e. drawn (after e s) .byte) ⌝ }
-    ensures stream { λ r. ⌜ r .stream ≡ after len s ⌝ }
+    ensures { λ r. ⌜ r ≡ product len (λ e. at (now (u .entry)) (first + e)) (λ e. drawn (after e s) .byte) ⌝ }
 {
     let mut total = 0u8;
     let mut t = s;
@@ -48,7 +41,7 @@ pub fn product_drawn(
         let next = d.stream;
         t = next;
     }
-    Summed { total, stream: t }
+    total
 }
 
 // 03 to the k times len bytes, from `first` on, added to those of out from `from` on.

@@ -11,7 +11,7 @@ use Rattle.audit.specs.Challenge.{challengeOf}
 use Rattle.audit.proofs.ReadLaws.{readable}
 use Rattle.archive.specs.Layout.{sizesOf, markAt, filledIn}
 use Rattle.archive.proofs.GoodLaws.{good-length}
-use Rattle.proving.proofs.ProveLaws.{first-low, item-fits, number-is, number-fits}
+use Rattle.proving.proofs.ProveLaws.{first-low, number-is, number-fits}
 use Rattle.proving.proofs.any_named_empty.Statement.{statement}
 use Rattle.proving.proofs.any_named_empty.Tie as tie
 
@@ -24,43 +24,60 @@ abbrev μ-loop : tie.MeasureT-loop
 μ-loop archive message first j₀ j-end j = j-end - j
 
 sizes-in-requires : tie.Need-sizes-in-requires Inv-loop μ-loop
-sizes-in-requires c κs = let b = c .before .before in omega (arith, good-length (b .args .archive .now) (b .pre .0))
+sizes-in-requires c κs = omega (arith, good-length _ (c .before .before .pre .0))
 
 mul-first : tie.Need-mul-first Inv-loop μ-loop
 mul-first c =
-    let b = c .before .before .before .before .before in
-    omega (arith, first-low (b .args .archive .now) (b .pre .0) (c .before .before .sizes-in .ensures) (c .before .node-in .ensures .1))
+    let node = c .before in
+    omega (arith, first-low _ (node .before .before .before .before .pre .0) (node .before .sizes-in .ensures) (node .node-in .ensures .1))
 
 loop-holds : tie.Need-loop-holds Inv-loop μ-loop
 loop-holds c = (omega arith, c .count-in .ensures .0, λ i l. absurd (omega arith))
 
 place-in-requires : tie.Need-place-in-requires Inv-loop μ-loop
 place-in-requires c κs =
-    let b = c .before .before .before .before .before .before .before .before in
-    item-fits (b .args .message .now) (c .before .loop .j) (b .pre .1) (omega (arith, c .before .loop .inv .1))
+    let w = readable _ (c .before .before .before .before .before .before .before .before .pre .1) in
+    (omega arith, omega arith)
 
 add-marked : tie.Need-add-marked Inv-loop μ-loop
 add-marked c =
-    let b = c .before .before .before .before .before .before .before .before .before in
-    omega (arith, number-fits (b .args .archive .now) (b .args .message .now) (b .pre .0) (b .pre .1) (b .pre .2) (c .before .before .loop .j) (omega (arith, c .before .before .loop .inv .1)) (c .before .before .before .before .before .before .sizes-in .ensures) (c .before .before .before .before .before .node-in .ensures .0) (c .place-in .ensures))
+    let l = c .before .before .loop in
+    let node = c .before .before .before .before .before in
+    let b = node .before .before .before .before in
+    omega (
+      arith,
+      number-fits _ _ (b .pre .0) (b .pre .1) (b .pre .2) (l .j) (omega (arith, l .inv .1))
+          (node .before .sizes-in .ensures) (node .node-in .ensures .0) (c .place-in .ensures),
+    )
 
 marked-requires : tie.Need-marked-requires Inv-loop μ-loop
 marked-requires c κs =
-    let b = c .before .before .before .before .before .before .before .before .before in
-    (number-fits (b .args .archive .now) (b .args .message .now) (b .pre .0) (b .pre .1) (b .pre .2) (c .before .before .loop .j) (omega (arith, c .before .before .loop .inv .1)) (c .before .before .before .before .before .before .sizes-in .ensures) (c .before .before .before .before .before .node-in .ensures .0) (c .place-in .ensures), omega (arith, good-length (b .args .archive .now) (b .pre .0)))
+    let l = c .before .before .loop in
+    let node = c .before .before .before .before .before in
+    let b = node .before .before .before .before in
+    let fits = number-fits _ _ (b .pre .0) (b .pre .1) (b .pre .2) (l .j) (omega (arith, l .inv .1))
+    (node .before .sizes-in .ensures) (node .node-in .ensures .0) (c .place-in .ensures) in
+    (fits, omega (arith, good-length _ (b .pre .0)))
 
 returns : tie.Need-returns Inv-loop μ-loop
 returns c =
-    let b = c .before .before .before .before .before .before .before .before .before .before .before in
-    let k = number-is (b .args .archive .now) (b .args .message .now) (b .pre .0) (b .pre .1) (b .pre .2) (c .before .before .before .before .loop .j) (omega (arith, c .before .before .before .before .loop .inv .1)) (c .before .before .before .before .before .before .before .before .sizes-in .ensures) (c .before .before .before .before .before .before .before .node-in .ensures .0) (c .before .before .place-in .ensures) in
-    sym (any-some _ _ (c .before .before .before .before .loop .j) (omega (arith, c .before .before .before .before .loop .inv .1)) (ap not (ap (markAt (b .args .archive .now)) (sym k) ∙ sym (c .before .marked .ensures)) ∙ c .if1 .taken))
+    let l = c .before .before .before .before .loop in
+    let node = c .before .before .before .before .before .before .before in
+    let b = node .before .before .before .before in
+    let k = number-is _ _ (b .pre .0) (b .pre .1) (b .pre .2) (l .j) (omega (arith, l .inv .1))
+    (node .before .sizes-in .ensures) (node .node-in .ensures .0) (c .before .before .place-in .ensures) in
+    let mark = ap not (ap (markAt (b .args .archive .now)) (sym k) ∙ sym (c .before .marked .ensures)) ∙ c .if1 .taken in
+    sym (any-some _ _ (l .j) (omega (arith, l .inv .1)) mark)
 
 loop-again : tie.Need-loop-again Inv-loop μ-loop
 loop-again c =
-    let b = c .before .before .before .before .before .before .before .before .before .before .before in
-    let i = c .before .before .before .before .loop .inv in
-    let k = number-is (b .args .archive .now) (b .args .message .now) (b .pre .0) (b .pre .1) (b .pre .2) (c .before .before .before .before .loop .j) (omega (arith, c .before .before .before .before .loop .inv .1)) (c .before .before .before .before .before .before .before .before .sizes-in .ensures) (c .before .before .before .before .before .before .before .node-in .ensures .0) (c .before .before .place-in .ensures) in
-    (omega arith, i .1, below-more _ _ (i .2) (ap not (ap (markAt (b .args .archive .now)) (sym k) ∙ sym (c .before .marked .ensures)) ∙ c .if1 .left))
+    let l = c .before .before .before .before .loop in
+    let node = c .before .before .before .before .before .before .before in
+    let b = node .before .before .before .before in
+    let k = number-is _ _ (b .pre .0) (b .pre .1) (b .pre .2) (l .j) (omega (arith, l .inv .1))
+    (node .before .sizes-in .ensures) (node .node-in .ensures .0) (c .before .before .place-in .ensures) in
+    let mark = ap not (ap (markAt (b .args .archive .now)) (sym k) ∙ sym (c .before .marked .ensures)) ∙ c .if1 .left in
+    (omega arith, l .inv .1, below-more _ _ (l .inv .2) mark)
 
 returns-2 : tie.Need-returns-2 Inv-loop μ-loop
 returns-2 c =

@@ -2,7 +2,8 @@ use borrow.Author.Needs.{needs}
 use mathlib.Core.Path.{_≡_, ap}
 use native.Mathlib.Omega.{arith}
 use Rattle.tag.specs.declared.Sizes.{Sizes}
-use Rattle.archive.proofs.GoodLaws.{good-sizes, good-length}
+use Rattle.archive.proofs.GoodLaws.{good-length}
+use Rattle.archive.proofs.CallLaws.{read-sizes}
 use Rattle.archive.proofs.ProveCheckLaws.{provable, id-part, id-read, proved-is}
 use Rattle.proving.proofs.write_response.Statement.{statement}
 use Rattle.proving.proofs.write_response.Tie as tie
@@ -10,49 +11,60 @@ use Rattle.proving.proofs.write_response.Tie as tie
 sizes-in-requires : tie.Need-sizes-in-requires
 sizes-in-requires c κs =
     let b = c .before .before .before .before .before .before .before .before .before in
-    let P = provable (b .args .archive .now) (b .args .mask-key .now) (b .args .elements .now) (b .args .seed .now) (b .args .message .now) (b .args .response .now) (b .pre) in
-    omega (arith, good-length _ (P .good))
+    omega (arith, good-length _ (provable _ _ _ _ _ _ (b .pre) .good))
 
 named-record-requires : tie.Need-named-record-requires
 named-record-requires c κs =
-    let b = c .before .before .before .before .before .before .before .before .before .before .before .before in
-    let P = provable (b .args .archive .now) (b .args .mask-key .now) (b .args .elements .now) (b .args .seed .now) (b .args .message .now) (b .args .response .now) (b .pre) in
-    let t = c .before .before .before .before .before .tables .ensures in
-    (t .0, t .1, P .good, P .formed, P .there)
+    let t = c .before .before .before .before .before in
+    let b = t .before .before .before .before .before .before .before in
+    let P = provable _ _ _ _ _ _ (b .pre) in
+    (t .tables .ensures .0, t .tables .ensures .1, P .good, P .formed, P .there)
 
 node-in-requires : tie.Need-node-in-requires
 node-in-requires c κs =
-    let b = c .before .before .before .before .before .before .before .before .before .before .before .before .before in
-    let P = provable (b .args .archive .now) (b .args .mask-key .now) (b .args .elements .now) (b .args .seed .now) (b .args .message .now) (b .args .response .now) (b .pre) in
-    P .formed
+    let t = c .before .before .before .before .before .before in
+    let b = t .before .before .before .before .before .before .before in
+    provable _ _ _ _ _ _ (b .pre) .formed
 
 key-array-requires : tie.Need-key-array-requires
 key-array-requires c κs =
-    let b = c .before .before .before .before .before .before .before .before .before .before .before .before .before .before in
-    let P = provable (b .args .archive .now) (b .args .mask-key .now) (b .args .elements .now) (b .args .seed .now) (b .args .message .now) (b .args .response .now) (b .pre) in
-    P .key-length
+    let t = c .before .before .before .before .before .before .before in
+    let b = t .before .before .before .before .before .before .before in
+    provable _ _ _ _ _ _ (b .pre) .key-length
 
 part-write-parts-end : tie.Need-part-write-parts-end
 part-write-parts-end c =
-    let b = c .before .before .before .before .before .before .before .before .before .before .before .before .before .before .before .before in
-    let P = provable (b .args .archive .now) (b .args .mask-key .now) (b .args .elements .now) (b .args .seed .now) (b .args .message .now) (b .args .response .now) (b .pre) in
-    omega (arith, good-length _ (P .good))
+    let t = c .before .before .before .before .before .before .before .before .before in
+    let b = t .before .before .before .before .before .before .before in
+    omega (arith, good-length _ (provable _ _ _ _ _ _ (b .pre) .good))
 
 write-parts-requires : tie.Need-write-parts-requires
 write-parts-requires c κs =
-    let b = c .before .before .before .before .before .before .before .before .before .before .before .before .before .before .before .before .before .before in
-    let P = provable (b .args .archive .now) (b .args .mask-key .now) (b .args .elements .now) (b .args .seed .now) (b .args .message .now) (b .args .response .now) (b .pre) in
-    let R = good-sizes _ (P .good) in
-    let z = c .before .before .before .before .before .before .before .before .sizes-in .ensures in
-    let n : c .before .before .before .before .before .before .before .before .sizes-in .result .n ≡ _ = ap (λ (x : Sizes). x .n) z in
-    let m : c .before .before .before .before .before .before .before .before .sizes-in .result .m ≡ _ = ap (λ (x : Sizes). x .m) z in
-    (omega (arith, c .before .before .before .before .node-in .ensures .1), omega (arith, n, R .n-low), omega (arith, n, R .n-high), omega (arith, m, R .m-high), search needs, id-part _ (P .good), rw n (P .elements-length), P .seed-length, rw n (P .response-length))
+    let node = c .before .before .before .before in
+    let z = node .before .before .before .before in
+    let b = z .before .before .before .before .before .before .before .before .before .before in
+    let P = provable _ _ _ _ _ _ (b .pre) in
+    let R = read-sizes _ (z .sizes-in .ensures) (P .good) in
+    let n : z .sizes-in .result .n ≡ _ = ap (λ (x : Sizes). x .n) (z .sizes-in .ensures) in (
+      omega (arith, node .node-in .ensures .1),
+      R .n-low,
+      R .n-high,
+      R .m-high,
+      search needs,
+      id-part _ (P .good),
+      rw n (P .elements-length),
+      P .seed-length,
+      rw n (P .response-length),
+    )
 
 returns : tie.Need-returns
 returns c =
-    let b = c .before .before .before .before .before .before .before .before .before .before .before .before .before .before .before .before .before .before .before .before .before in
-    let P = provable (b .args .archive .now) (b .args .mask-key .now) (b .args .elements .now) (b .args .seed .now) (b .args .message .now) (b .args .response .now) (b .pre) in
-    proved-is _ _ _ _ _ (c .before .before .before .before .before .before .before .before .named-record .result) (P .good) (c .before .before .before .before .before .before .before .before .before .before .before .sizes-in .ensures) (c .before .before .before .before .before .before .before .node-in .ensures .0) (c .before .before .before .before .before .before .key-array .ensures) (id-read _) (c .before .before .before .before .before .before .before .before .named-record .ensures) (c .before .before .write-parts .ensures)
+    let key = c .before .before .before .before .before .before in
+    let named = key .before .before in
+    let z = named .before .before .before in
+    let b = z .before .before .before .before .before .before .before .before .before .before in
+    proved-is _ _ _ _ _ (named .named-record .result) (provable _ _ _ _ _ _ (b .pre) .good) (z .sizes-in .ensures) (key .before .node-in .ensures .0)
+    (key .key-array .ensures) (id-read _) (named .named-record .ensures) (c .before .before .write-parts .ensures)
 
 pub write-response-spec : {M : Type 1} → statement M
 write-response-spec =

@@ -1,44 +1,92 @@
 use borrow.Author.Needs.{needs}
+use Prim.Native.Nat.{_-_}
 use native.Mathlib.Omega.{arith}
 use Rattle.tag.proofs.SizeLaws.{ranged}
-use Rattle.audit.proofs.JudgeLaws.{parts}
+use Rattle.audit.proofs.JudgeLaws.{length-part, parts}
 use Rattle.audit.proofs.judge.agrees.Statement.{statement}
 use Rattle.audit.proofs.judge.agrees.Tie as tie
 
-sub-product-drawn : tie.Need-sub-product-drawn
-sub-product-drawn c = omega (arith, ranged _ (c .before .before .pre .2) .n-low)
+sub-product-of : tie.Need-sub-product-of
+sub-product-of c = omega (arith, ranged _ (c .before .before .before .pre .2) .n-low)
 
-product-drawn-requires-3 : tie.Need-product-drawn-requires-3
-product-drawn-requires-3 c κs =
+sub-product-of-2 : tie.Need-sub-product-of-2
+sub-product-of-2 c = omega (arith, ranged _ (c .before .before .before .pre .2) .n-low)
+
+part-product-of-start : tie.Need-part-product-of-start
+part-product-of-start c = omega (arith, ranged _ (c .before .before .before .pre .2) .n-low)
+
+sub-product-of-3 : tie.Need-sub-product-of-3
+sub-product-of-3 c = omega (arith, ranged _ (c .before .before .before .before .pre .2) .n-low)
+
+product-of-requires : tie.Need-product-of-requires
+product-of-requires c κs =
     let p = c .before .before .before .before .pre in
-    (p .0, p .1, omega (arith, ranged _ (p .2) .m-high))
+    (p .0, p .1, search needs, omega (arith, ranged _ (p .2) .n-high))
 
-add-result : tie.Need-add-result
-add-result c = omega (arith, ranged _ (c .before .before .before .before .before .before .before .before .pre .2) .n-high)
+sub-product-of-5 : tie.Need-sub-product-of-5
+sub-product-of-5 c = omega (arith, ranged _ (c .before .before .before .before .before .before .pre .2) .n-low)
 
-add-result-2 : tie.Need-add-result-2
-add-result-2 c = omega (arith, ranged _ (c .before .before .before .before .before .before .before .before .before .pre .2) .n-high)
+part-product-of-end-3 : tie.Need-part-product-of-end-3
+part-product-of-end-3 c = omega (arith, ranged _ (c .before .before .before .before .before .before .pre .2) .n-high)
+
+product-of-requires-2 : tie.Need-product-of-requires-2
+product-of-requires-2 c κs =
+    let b = c .before .before .before .before .before .before .before in
+    let r = ranged _ (b .pre .2) in
+    let long = length-part (b .args .z .n - 2) (b .args .z .n) (b .args .vector .now) (omega arith) in
+    (b .pre .0, b .pre .1, search needs, omega arith)
+
+add-product-of-3 : tie.Need-add-product-of-3
+add-product-of-3 c =
+    let r = ranged _ (c .before .before .before .before .before .before .before .before .before .pre .2) in
+    omega arith
+
+part-product-of-end-4 : tie.Need-part-product-of-end-4
+part-product-of-end-4 c =
+    let r = ranged _ (c .before .before .before .before .before .before .before .before .before .pre .2) in
+    omega arith
+
+product-of-requires-3 : tie.Need-product-of-requires-3
+product-of-requires-3 c κs =
+    let p = c .before .before .before .before .before .before .before .before .before .before .pre in
+    (p .0, p .1, omega (arith, ranged _ (p .2) .m-high), search needs)
 
 returns : tie.Need-returns
 returns c =
-    let tail = c .before .before .before .before .before in
-    let clear = tail .before in
-    let masked = clear .before in
-    let b = masked .before .before .before in
-    parts (b .args .z) (ranged _ (b .pre .2) .n-low) (b .args .row .now) (b .args .response .now) _ (masked .product-drawn .ensures .0)
-    (masked .product-drawn .ensures .1) (clear .product-drawn2 .ensures .0) (clear .product-drawn2 .ensures .1) (tail .product-drawn3 .ensures .0)
+    let tail = c .before .before in
+    let clear = tail .before .before .before in
+    let masked = clear .before .before .before in
+    let b = masked .before .before .before .before .before in
+    parts (b .args .z) (ranged _ (b .pre .2) .n-low) (b .args .row .now) (b .args .response .now) (b .args .vector .now) (masked .product-of .ensures)
+    (clear .product-of2 .ensures) (tail .product-of3 .ensures)
 
 pub agrees-spec : {M : Type 1} → statement M
 agrees-spec =
     tie.close
     (tie.spec
-    sub-product-drawn
-    (λ c κs. search needs)
+    sub-product-of
+    sub-product-of-2
+    part-product-of-start
     (λ c. search needs)
-    (λ c κs. search needs)
-    product-drawn-requires-3
-    add-result
+    sub-product-of-3
+    product-of-requires
     (λ c. search needs)
-    add-result-2
+    (λ c. search needs)
+    (λ c. search needs)
+    (λ c. search needs)
+    (λ c. search needs)
+    sub-product-of-5
+    (λ c. search needs)
+    (λ c. search needs)
+    part-product-of-end-3
+    product-of-requires-2
+    add-product-of-3
+    (λ c. search needs)
+    (λ c. search needs)
+    part-product-of-end-4
+    product-of-requires-3
+    (λ c. search needs)
+    (λ c. search needs)
+    (λ c. search needs)
     (λ c. search needs)
     returns)

@@ -106,7 +106,7 @@ returns c =
     let z = start .before .before in
     let ok = encodable _ _ _ _ _ _ _ (z .sizes-in .ensures) (z .before .before .before .before .before .before .before .before .before .before .pre) in
     place-filled _ _ _ _ _ _ _ _ (z .sizes-in .ensures) ok (start .record-start .ensures) (key .key-array .ensures) (stream .before .id-nonce .ensures)
-    (stream .new .ensures) (marks .set-marks .ensures) (block .write-block .ensures) (c .before .before .product-drawn .ensures .0)
+    (stream .new .ensures) (marks .set-marks .ensures) (block .write-block .ensures) (c .before .before .product-drawn .ensures)
 
 pub fill-place-spec : {M : Type 1} → statement M
 fill-place-spec =

@@ -2,15 +2,22 @@ use borrow.Author.Count.{below-more}
 use borrow.Author.Needs.{needs}
 use borrow.Author.Tests.{leb-false}
 use Prim.Native.Nat.{ℕ, _<_, _-_}
-use mathlib.Core.Path.{_≡_, refl, sym, ap, _∙_}
-use mathlib.Core.Bool.{false, not}
+use mathlib.Core.Path.{_≡_, refl, sym, _∙_}
+use mathlib.Core.Bool.{Bool, false, not}
+use mathlib.Core.List.{List}
 use native.Mathlib.Omega.{arith}
 use lib.ListN.{length}
 use Rattle.lists.specs.Lists.{at, anyBelow}
 use Rattle.lists.proofs.AnyLaws.{any-some, any-none, any-below}
+use Rattle.tag.specs.declared.Sizes.{Sizes}
 use Rattle.archive.specs.Layout.{filledIn}
 use Rattle.coding.proofs.repairing.any_helper_empty.Statement.{statement}
 use Rattle.coding.proofs.repairing.any_helper_empty.Tie as tie
+
+-- the test of one helper
+tested : (z : Sizes) (s : List ℕ) {node helper : ℕ} {r t : Bool} → node ≡ helper → r ≡ anyBelow (z .places) (λ l. not (filledIn z s node l)) → r ≡ t
+    → anyBelow (z .places) (λ l. not (filledIn z s helper l)) ≡ t
+tested z s e f g = rw (← e) (sym f ∙ g)
 
 abbrev Inv-loop : tie.InvT-loop
 Inv-loop archive z helpers i₀ i-end i =
@@ -22,8 +29,8 @@ abbrev μ-loop : tie.MeasureT-loop
 loop-holds : tie.Need-loop-holds Inv-loop μ-loop
 loop-holds c = (refl, λ j l. absurd (omega arith))
 
-any-empty-requires : tie.Need-any-empty-requires Inv-loop μ-loop
-any-empty-requires c κs =
+any-place-requires : tie.Need-any-place-requires Inv-loop μ-loop
+any-place-requires c κs =
     let i = c .before .before .before .loop .i in
     let s = c .before .before .before .before .before .before in
     let l = leb-false (s .args .z .nodes) (at (s .args .helpers .now) i) (any-below _ _ (s .pre .2) i (omega arith)) in
@@ -32,15 +39,17 @@ any-empty-requires c κs =
 returns : tie.Need-returns Inv-loop μ-loop
 returns c =
     let a = c .before .before .before .before .before .before .before .before .args in
-    let e = ap (λ (node : ℕ). anyBelow (a .z .places) (λ l. not (filledIn (a .z) (a .archive .now) node l))) (c .before .before .widen .ensures .0) in
-    sym (any-some _ _ (c .before .before .before .before .before .loop .i) (omega arith) (sym e ∙ sym (c .before .any-empty .ensures) ∙ c .if1 .taken))
+    sym (any-some _ _ (c .before .before .before .before .before .loop .i) (omega arith)
+    (tested (a .z) (a .archive .now) (c .before .before .widen .ensures .0) (c .before .any-place .ensures) (c .if1 .taken)))
 
 loop-again : tie.Need-loop-again Inv-loop μ-loop
 loop-again c =
     let i = c .before .before .before .before .before .loop .inv in
-    let a = c .before .before .before .before .before .before .before .before .args in
-    let e = ap (λ (node : ℕ). anyBelow (a .z .places) (λ l. not (filledIn (a .z) (a .archive .now) node l))) (c .before .before .widen .ensures .0) in
-    (i .0, below-more _ _ (i .1) (sym e ∙ sym (c .before .any-empty .ensures) ∙ c .if1 .left))
+    let a = c .before .before .before .before .before .before .before .before .args in (
+      i .0,
+      below-more _ _ (i .1)
+          (tested (a .z) (a .archive .now) (c .before .before .widen .ensures .0) (c .before .any-place .ensures) (c .if1 .left)),
+    )
 
 returns-2 : tie.Need-returns-2 Inv-loop μ-loop
 returns-2 c = sym (any-none _ _ (λ j l. c .before .loop .inv .1 j (omega arith)))
@@ -54,7 +63,7 @@ any-helper-empty-spec =
     loop-holds
     (λ c. search needs)
     (λ c κs. search needs)
-    any-empty-requires
+    any-place-requires
     returns
     (λ c. search needs)
     (λ c. search needs)

@@ -59,7 +59,8 @@ returns-3 c =
     let o = c .before .before .before in
     let z = o .before .before .before in
     answered _ (z .sizes-in .ensures) (sym (z .before .before .bad-archive .ensures) ∙ z .before .if1 .left) _
-    (refused-length _ _ _ _ _ _ _ _ (o .before .before .outside .ensures) (o .before .outside2 .ensures) (o .if2 .left) (c .before .record-length .ensures .0) (c .if3 .taken))
+    (refused-length _ _ _ _ _ _ _ _ (o .before .before .outside .ensures) (o .before .outside2 .ensures) (o .if2 .left)
+    (c .before .record-length .ensures .0) (c .if3 .taken))
 
 returns-4 : tie.Need-returns-4
 returns-4 c =
@@ -67,10 +68,11 @@ returns-4 c =
     let o = l .before .before .before in
     let z = o .before .before .before in
     answered _ (z .sizes-in .ensures) (sym (z .before .before .bad-archive .ensures) ∙ z .before .if1 .left) _
-    (refused-place _ _ _ _ _ _ _ _ (o .before .before .outside .ensures) (o .before .outside2 .ensures) (o .if2 .left) (l .before .record-length .ensures .0) (l .if3 .left) (c .before .any-missing .ensures) (c .if4 .taken))
+    (refused-place _ _ _ _ _ _ _ _ (o .before .before .outside .ensures) (o .before .outside2 .ensures) (o .if2 .left)
+    (l .before .record-length .ensures .0) (l .if3 .left) (c .before .any-missing .ensures) (c .if4 .taken))
 
-any-filled-requires : tie.Need-any-filled-requires
-any-filled-requires c κs =
+any-place-requires : tie.Need-any-place-requires
+any-place-requires c κs =
     let z = c .before .before .before .before .before .before .before .before .before in
     let a = z .before .before .before .before .before .before .before .before .args in
     let good = (sym (z .before .before .bad-archive .ensures) ∙ z .before .if1 .left) in
@@ -85,7 +87,8 @@ returns-5 c =
     let o = l .before .before .before in
     let z = o .before .before .before in
     answered _ (z .sizes-in .ensures) (sym (z .before .before .bad-archive .ensures) ∙ z .before .if1 .left) _
-    (refused-filled _ _ _ _ _ _ _ _ (o .before .before .outside .ensures) (o .before .outside2 .ensures) (o .if2 .left) (l .before .record-length .ensures .0) (l .if3 .left) (p .before .any-missing .ensures) (p .if4 .left) (c .before .any-filled .ensures) (c .if5 .taken))
+    (refused-filled _ _ _ _ _ _ _ _ (o .before .before .outside .ensures) (o .before .outside2 .ensures) (o .if2 .left)
+    (l .before .record-length .ensures .0) (l .if3 .left) (p .before .any-missing .ensures) (p .if4 .left) (c .before .any-place .ensures) (c .if5 .taken))
 
 any-helper-empty-requires : tie.Need-any-helper-empty-requires
 any-helper-empty-requires c κs =
@@ -93,7 +96,8 @@ any-helper-empty-requires c κs =
     let z = p .before .before .before .before .before .before .before .before .before in
     let a = z .before .before .before .before .before .before .before .before .args in
     let good = (sym (z .before .before .bad-archive .ensures) ∙ z .before .if1 .left) in
-    let present = sym (p .before .any-missing .ensures) ∙ or-false (leb (z .sizes-in .result .nodes) (a .target)) (p .before .any-missing .result) (p .if4 .left) .1 in
+    let nodes = z .sizes-in .result .nodes in
+    let present = sym (p .before .any-missing .ensures) ∙ or-false (leb nodes (a .target)) (p .before .any-missing .result) (p .if4 .left) .1 in
     (not-sizes-outside _ (read-sizes _ (z .sizes-in .ensures) good), omega (arith, read-length _ (z .sizes-in .ensures) good), present)
 
 returns-6 : tie.Need-returns-6
@@ -104,8 +108,9 @@ returns-6 c =
     let o = l .before .before .before in
     let z = o .before .before .before in
     answered _ (z .sizes-in .ensures) (sym (z .before .before .bad-archive .ensures) ∙ z .before .if1 .left) _
-    (refused-empty _ _ _ _ _ _ _ _ (o .before .before .outside .ensures) (o .before .outside2 .ensures) (o .if2 .left) (l .before .record-length .ensures .0) (l .if3 .left) (p .before .any-missing .ensures) (p .if4 .left) (f .before .any-filled .ensures)
-    (f .if5 .left) (c .before .any-helper-empty .ensures) (c .if6 .taken))
+    (refused-empty _ _ _ _ _ _ _ _ (o .before .before .outside .ensures) (o .before .outside2 .ensures) (o .if2 .left)
+    (l .before .record-length .ensures .0) (l .if3 .left) (p .before .any-missing .ensures) (p .if4 .left) (f .before .any-place .ensures) (f .if5 .left)
+    (c .before .any-helper-empty .ensures) (c .if6 .taken))
 
 returns-7 : tie.Need-returns-7
 returns-7 c =
@@ -115,8 +120,9 @@ returns-7 c =
     let o = l .before .before .before in
     let z = o .before .before .before in
     answered _ (z .sizes-in .ensures) (sym (z .before .before .bad-archive .ensures) ∙ z .before .if1 .left) _
-    (not-refused _ _ _ _ _ _ _ _ (o .before .before .outside .ensures) (o .before .outside2 .ensures) (o .if2 .left) (l .before .record-length .ensures .0) (l .if3 .left) (p .before .any-missing .ensures) (p .if4 .left) (f .before .any-filled .ensures)
-    (f .if5 .left) (c .before .any-helper-empty .ensures) (c .if6 .left))
+    (not-refused _ _ _ _ _ _ _ _ (o .before .before .outside .ensures) (o .before .outside2 .ensures) (o .if2 .left)
+    (l .before .record-length .ensures .0) (l .if3 .left) (p .before .any-missing .ensures) (p .if4 .left) (f .before .any-place .ensures) (f .if5 .left)
+    (c .before .any-helper-empty .ensures) (c .if6 .left))
 
 pub repair-check-spec : {M : Type 1} → statement M
 repair-check-spec =
@@ -136,7 +142,7 @@ repair-check-spec =
     returns-3
     (λ c κs. search needs)
     returns-4
-    any-filled-requires
+    any-place-requires
     returns-5
     any-helper-empty-requires
     returns-6

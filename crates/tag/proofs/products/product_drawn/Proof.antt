@@ -31,10 +31,7 @@ loop-again c =
 
 returns : tie.Need-returns Inv-loop μ-loop
 unfolding product
-returns c =
-    let l = c .before .loop in
-    let e : l .e ≡ c .before .before .before .args .len = omega arith in
-    (sum-all _ e (l .inv .1), rw e at (l .inv .2))
+returns c = sum-all _ (omega arith) (c .before .loop .inv .1)
 
 pub product-drawn-spec : {M : Type 1} → statement M
 product-drawn-spec =
