@@ -81,6 +81,19 @@ static uint8_t *live(void) {
     return archive;
 }
 
+/* A helper may be named twice: node 0 from node 2 and node 2, a repair block each, in an archive of its own. */
+static void repair_by_one_named_twice(const uint8_t *from) {
+    static const uint8_t helpers[2] = {2, 2}, blocks[12] = {0x1c, 0x4e, 0x87, 0x4e, 0x67, 0xb7, 0x6a, 0x60, 0xfb, 0x60, 0x78, 0x1f};
+    static const uint8_t records[12] = {0x95, 0xea, 0x4a, 0xea, 0x9f, 0x7f, 0x3b, 0xc7, 0xb2, 0xc7, 0xa1, 0xbd};
+    uint8_t *archive = lend(from, ARCHIVE), *scratch = lend(NULL, 12);
+    answer("repair, a helper named twice", 0, span_repair(archive, ARCHIVE, 0, helpers, 2, 1, gammas, 4, thetas, 4, scratch, 12));
+    expect("its repair blocks", !memcmp(scratch, blocks, 12));
+    expect("its marks", archive[12] == 0xfc && !memcmp(archive, from, 12) && !memcmp(archive + 13, from + 13, 5));
+    expect("its records", !memcmp(archive + 18, records, 12) && !memcmp(archive + 30, from + 30, ARCHIVE - 30));
+    give_back("its scratch", scratch, 12);
+    give_back("its archive", archive, ARCHIVE);
+}
+
 /* Setup, Challenge, Prove, Verdict and Unmask; and a response whose masked byte is changed. */
 static void audit(const uint8_t *archive) {
     static const uint8_t places[2] = {0, 1}, coefficients[2] = {0x07, 0xb5}, rows[4] = {0xf3, 0xfe, 0x72, 0xfb};
@@ -142,6 +155,7 @@ int main(void) {
     for (int i = 0; i < 32; i++) tag_key[i] = (uint8_t)i, mask_key[i] = (uint8_t)(100 + i);
     uint8_t *archive = live();
     values();
+    repair_by_one_named_twice(archive);
     audit(archive);
     list_and_read(archive);
     give_back("the archive", archive, ARCHIVE);

@@ -20,7 +20,7 @@ use Rattle.bits.proofs.PackLaws.{packed-length, packed-at, packed-same, bits-ze
 use Rattle.bits.proofs.AppendLaws.{holds-none, holds-more}
 use Rattle.tag.specs.declared.Sizes.{Sizes}
 use Rattle.tag.specs.Sizes.{sizesOutside}
-use Rattle.archive.specs.Layout.{placeCount, recordLength, archiveLength, recordStart, sizeFields, archiveOf, opened, openAnswer, openOut}
+use Rattle.archive.specs.Layout.{archiveLength, recordStart, sizeFields, archiveOf, opened, openAnswer, openOut}
 use Rattle.archive.proofs.SizeLaws.{record-fits}
 use Rattle.archive.proofs.LayoutLaws.{sizes-length, length-archive, archive-front, archive-marks, archive-byte, same-bytes}
 

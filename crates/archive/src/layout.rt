@@ -6,7 +6,7 @@ ghost use lib.ListN.{length};
 ghost use lib.Dec.{leb};
 ghost use Rattle.lists.specs.Lists.{pick, anyBelow};
 ghost use Rattle.tag.specs.Sizes.{sizesOutside};
-ghost use Rattle.archive.specs.Layout.{placeCount, recordLength, archiveLength, recordStart, sizesOf, markAt, badArchive};
+ghost use Rattle.archive.specs.Layout.{recordLength, archiveLength, recordStart, sizesOf, markAt, badArchive};
 use tag::Sizes;
 
 // The bytes of a record: block, then tag.

@@ -1,7 +1,6 @@
 // Inventory: the filled places.
 ghost use mathlib.Core.Path.{_≡_};
 ghost use mathlib.Core.Bool.{false};
-ghost use Prim.Native.Nat.{_≤_};
 ghost use lib.ListN.{length};
 ghost use Rattle.archive.specs.Layout.{placeCount, sizesOf, filledIn, badArchive};
 ghost use Rattle.archive.specs.Inventory.{Listed, InventoryAllows};

@@ -57,12 +57,6 @@ block-byte w j h =
     rw (q, r) (sym (high-byte _ _ (j % 4) (word-low w (j / 8 * 2) (omega arith)))))
     (order (j % 8) 4))
 
-pub byte-lt : (key nonce : List ℕ) (i : ℕ) → byteAt key nonce i < 256
-unfolding byteAt blockOf serialised
-byte-lt key nonce i =
-    let h : i % 64 < 64 = omega arith in
-    rw (tab-at _ _ (i % 64) h) (mod-lt _ (lit< tt))
-
 -- a stream at place r of a block: the number at hand has lost the bytes before that place
 abbrev mid : List ℕ → List ℕ → ℕ → Stream
 mid words cache r = record { at = r; cur = at cache (r / 8) / 2 ^ (8 * (r % 8)); words = words; cache = cache }

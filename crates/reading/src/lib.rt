@@ -7,7 +7,7 @@ ghost use mathlib.Core.Bool.{false};
 ghost use lib.ListN.{length};
 ghost use Rattle.archive.specs.Layout.{sizesOf, badArchive};
 ghost use Rattle.archive.specs.Blocks.{fileLength};
-ghost use Rattle.archive.specs.Read.{ReadFor, ReadAllows};
+ghost use Rattle.archive.specs.Read.{ReadAllows};
 use answer::Refusal;
 use archive::Counted;
 use choosing::choose;

@@ -1,6 +1,6 @@
 -- What Vector's answer tells, and what is written then. Assumes nothing.
 use Prim.Native.Nat.{ℕ, _+_}
-use mathlib.Core.Path.{_≡_, sym, ap, _∙_}
+use mathlib.Core.Path.{_≡_, sym, _∙_}
 use mathlib.Core.List.{List, _∷_}
 use lib.ListN.{length}
 use Rattle.lists.specs.Lists.{tab}

@@ -9,7 +9,7 @@ ghost use mathlib.Core.Path.{_≡_};
 ghost use mathlib.Core.List.{_∷_};
 ghost use lib.ListN.{length};
 ghost use Rattle.lists.specs.Lists.{tab};
-ghost use Rattle.keystream.specs.Draws.{fresh, drawn, after};
+ghost use Rattle.keystream.specs.Draws.{drawn, after};
 ghost use Rattle.tag.specs.Sizes.{sizesOutside};
 ghost use Rattle.tag.specs.KeyVector.{TagsCombine, vectorAnswer, vectorOut};
 use answer::Outcome;
