@@ -40,90 +40,31 @@ fn lengths() {
     prove(b"Prove, no response", 2, &CHALLENGE, 32, 2, 11, 0);
 }
 
+// With every length right.
+fn asked(label: &[u8], expected: u64, message: &[u8]) {
+    prove(label, expected, message, 32, 2, 11, 17);
+}
+
 // 9, malformed, before 2, a length; 4, node or a place, after it; 5, a named place empty.
 fn messages() {
     prove(b"Prove, no challenge", 9, &[], 0, 0, 0, 0);
-    prove(b"Prove, challenge of one byte", 9, &[0x14], 32, 2, 11, 17);
-    prove(
-        b"Prove, challenge of kind 2",
-        9,
-        &[0x24, 0x20, 0x04],
-        32,
-        2,
-        11,
-        17,
-    );
-    prove(
-        b"Prove, challenge to node 6",
-        9,
-        &[0x1c, 0x20, 0x04],
-        32,
-        2,
-        11,
-        17,
-    );
-    prove(
-        b"Prove, challenge of no item",
-        9,
-        &[0x14, 0x00],
-        32,
-        2,
-        11,
-        17,
-    );
-    prove(
-        b"Prove, challenge one byte long",
-        9,
-        &[0x14, 0x20, 0x04, 0],
-        32,
-        2,
-        11,
-        17,
-    );
-    prove(
+    asked(b"Prove, challenge of one byte", 9, &[0x14]);
+    asked(b"Prove, challenge of kind 2", 9, &[0x24, 0x20, 0x04]);
+    asked(b"Prove, challenge to node 6", 9, &[0x1c, 0x20, 0x04]);
+    asked(b"Prove, challenge of no item", 9, &[0x14, 0x00]);
+    asked(b"Prove, challenge one byte long", 9, &[0x14, 0x20, 0x04, 0]);
+    asked(
         b"Prove, challenge with a last bit set",
         9,
         &[0x14, 0x20, 0x05],
-        32,
-        2,
-        11,
-        17,
     );
-    prove(
-        b"Prove, challenge to node 3",
-        4,
-        &[0x16, 0x20, 0x04],
-        32,
-        2,
-        11,
-        17,
-    );
-    prove(
-        b"Prove, challenge to place 2",
-        4,
-        &[0x14, 0x28, 0x04],
-        32,
-        2,
-        11,
-        17,
-    );
-    prove(
-        b"Prove, challenge to place 7",
-        4,
-        &[0x10, 0x3c, 0x04],
-        32,
-        2,
-        11,
-        17,
-    );
-    prove(
+    asked(b"Prove, challenge to node 3", 4, &[0x16, 0x20, 0x04]);
+    asked(b"Prove, challenge to place 2", 4, &[0x14, 0x28, 0x04]);
+    asked(b"Prove, challenge to place 7", 4, &[0x10, 0x3c, 0x04]);
+    asked(
         b"Prove, challenge to an empty place",
         5,
         &[0x10, 0x20, 0x04],
-        32,
-        2,
-        11,
-        17,
     );
 }
 
