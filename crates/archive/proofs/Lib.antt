@@ -6,6 +6,7 @@ pub mod MarkLaws
 pub mod OpenLaws
 pub mod StoreLaws
 pub mod CallLaws
+pub mod RepairedLaws
 pub mod LoseLaws
 pub mod BlockLaws
 pub mod ReadLaws

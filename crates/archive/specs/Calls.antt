@@ -55,6 +55,13 @@ archiveAnswer s c = refuse (badArchive s) BadArchive (answerFor (sizesOf s) (fil
 abbrev pub coefficient : Sizes → ℕ → List ℕ → ℕ → ℕ → ℕ → ℕ
 coefficient z q cs i j l = at cs ((i * q + j) * z .places + l)
 
+-- the sum over helpers i and repair blocks j of theta(i,j,k) times the sum over places l of gamma(i,j,l) times what x gives for the
+-- helper's place l
+abbrev pub repairSum : Sizes → List ℕ → ℕ → List ℕ → List ℕ → ℕ → (ℕ → ℕ → ℕ) → ℕ
+repairSum z helpers q gammas thetas k x =
+    sum (length helpers) (λ i. sum q (λ j.
+    times (coefficient z q thetas i j k) (sum (z .places) (λ l. times (coefficient z q gammas i j l) (x (at helpers i) l)))))
+
 -- "Repair block (i,j) is helper i's records, block and tag, combined by gamma(i,j,l)": its byte e
 unfoldable pub repairByte : Sizes → List ℕ → List ℕ → ℕ → List ℕ → ℕ → ℕ → ℕ → ℕ
 repairByte z s helpers q gammas i j e =

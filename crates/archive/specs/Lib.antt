@@ -5,3 +5,4 @@ pub mod Prove
 pub mod Read
 pub mod Inventory
 pub mod Counted
+pub mod Repaired

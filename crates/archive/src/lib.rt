@@ -7,6 +7,7 @@ mod opening;
 
 ghost use mathlib.Core.Path.{_≡_};
 ghost use Rattle.archive.specs.Counted.{countedNumber};
+ghost use Rattle.archive.specs.Repaired.{RepairedRows};
 use answer::Refusal;
 pub use layout::bad_archive;
 pub use layout::marked;
@@ -33,3 +34,8 @@ pub fn number(c: Counted) -> u8
         Counted::Refused(r) => answer::refusal_number(r),
     }
 }
+
+// Carries the law of rows under Repair: without its proof the crate is not proved.
+pub fn repaired_rows()
+    ensures { λ _. ⌜ RepairedRows ⌝ }
+{}

@@ -24,13 +24,17 @@ use Rattle.tag.specs.Sizes.{sizesOutside}
 use Rattle.tag.specs.KeyVector.{keyVector}
 use Rattle.tag.specs.Vectors.{product, added}
 use Rattle.tag.proofs.SizeLaws.{ranged}
-use Rattle.tag.proofs.VectorLaws.{product-same, product-keys, product-split}
+use Rattle.tag.proofs.VectorLaws.{mixed-vectors, product-same, product-keys, product-split}
+use Rattle.tag.proofs.AddedLaws.{added-zeros}
+use Rattle.linear.specs.declared.rows.Row.{Row}
+use Rattle.linear.specs.Rows.{kept}
+use Rattle.linear.proofs.KeptLaws.{row-stored, kept-same, kept-at}
 use Rattle.mask.specs.Response.{responseLength, dataIn, sumIn, tagIn}
 use Rattle.mask.proofs.RowLaws.{vector-filled}
-use Rattle.audit.specs.Challenge.{challengeOf, malformedChallenge}
+use Rattle.audit.specs.Challenge.{Challenge, challengeOf, malformedChallenge}
 use Rattle.audit.specs.Verdict.{notThere, verdictFor, namedRow, appended, accepts, judgement, verdictOf}
 use Rattle.audit.specs.declared.Judgement.the-variants.{Accepted, Rejected, Refused}
-use Rattle.audit.proofs.NamedLaws.{firstNamed, named-read}
+use Rattle.audit.proofs.NamedLaws.{firstNamed}
 
 -- ---- the product with the elements of a vector
 
@@ -98,6 +102,16 @@ accepts-same z v v′ u u′ response f g =
     (product-keys (z .n + z .m) _ v v′ f ∙ product-same (z .n + z .m) _ _ v′ (λ e h.
     ⊎-elim (λ (l : e < z .n). rw (lt-ltb e (z .n) l)) (λ (l : z .n ≤ e). rw (le-ltb e (z .n) l) (g (e - z .n) (omega arith))) (order e (z .n))))
 
+-- ---- the combined row
+
+-- the rows of the named places, as they were added to zeros
+pub row-named : (z : Sizes) (c : Challenge) (rows : List ℕ) {bytes : List ℕ} → z .m ≤ 16
+    → bytes ≡ added (z .m) 0 (firstNamed c rows 0 (z .m) (length (c .places))) (replicate 16 0) → record { bytes = bytes } ≡ kept (z .m) (namedRow z rows c)
+unfolding namedRow
+row-named z c rows low e =
+    row-stored (z .m) _ low (e ∙ added-zeros (z .m) 16 _ low)
+    ∙ kept-same (z .m) _ _ (λ i h. mixed-vectors (length (c .places)) _ _ _ i (λ j l. ap (at rows) (omega arith)))
+
 -- ---- what Verdict's answer tells, and what is judged then
 
 module _ (key id : List ℕ) (z : Sizes) (rows message response : List ℕ) where
@@ -131,24 +145,17 @@ module _ (key id : List ℕ) (z : Sizes) (rows message response : List ℕ) wher
         there = accepted _ _ _ (three .1) .0;
       }
 
-  -- the rows of the named places, as they were added to zeros
-  row-named : {row : List ℕ} → sizesOutside z ≡ false
-      → row ≡ added (z .m) 0 (firstNamed (challengeOf message) rows 0 (z .m) (length (challengeOf message .places))) (replicate 16 0)
-      → (i : ℕ) → i < z .m → at row i ≡ namedRow z rows (challengeOf message) i
-  unfolding namedRow
-  row-named sized f = named-read (challengeOf message) rows 0 16 (z .m) _ (ranged z sized .m-high) f (λ j e. ap (at rows) (omega arith))
-
-  pub verdict-judged : answer ≡ Done → (before : List ℕ) (count : ℕ) (b : Bool) {k nonce row vector : List ℕ} {t : Bool}
+  pub verdict-judged : answer ≡ Done → (before : List ℕ) (count : ℕ) (b : Bool) {k nonce vector : List ℕ} {row : Row} {t : Bool}
       → k ≡ key → nonce ≡ 1 ∷ 0 ∷ 0 ∷ 0 ∷ id → z .n + z .m ≤ 64 * count → 64 * count ≤ length before
       → vector ≡ put (64 * count) 0 (byteAt k nonce) before
-      → row ≡ added (z .m) 0 (firstNamed (challengeOf message) rows 0 (z .m) (length (challengeOf message .places))) (replicate 16 0)
-      → t ≡ accepts z (at vector) (at row) response → t ≡ b
+      → row ≡ kept (z .m) (namedRow z rows (challengeOf message)) → t ≡ accepts z (at vector) (at (row .bytes)) response → t ≡ b
       → pick b Accepted Rejected ≡ verdictOf key id z rows message response
   unfolding verdictOf judgement
-  verdict-judged e before count b {k} {nonce} {row} {vector} p q enough fits filled named w tested =
+  verdict-judged e before count b {k} {nonce} {vector} p q enough fits filled named w tested =
       let elements : (i : ℕ) → i < z .n + z .m → at vector i ≡ keyVector key id i =
       λ i l. vector-filled k nonce count i before fits filled (omega arith) id q ∙ ap (λ (x : List ℕ). keyVector x id i) p in
-      let same = accepts-same z _ (keyVector key id) _ (namedRow z rows (challengeOf message)) response elements (row-named (verdict-tells e .sized) named) in
+      let row-is = kept-at (z .m) _ (ranged z (verdict-tells e .sized) .m-high) named in
+      let same = accepts-same z _ (keyVector key id) _ (namedRow z rows (challengeOf message)) response elements row-is in
       rw (e, ← same, ← w, tested)
 
   pub verdict-refused : {r : Refusal} → answer ≡ RefusedOutcome r → Refused r ≡ verdictOf key id z rows message response

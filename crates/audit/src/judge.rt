@@ -1,14 +1,16 @@
 // Verdict: the auditor's judgement on a response.
 ghost use mathlib.Core.Path.{_≡_};
 ghost use mathlib.Core.Bool.{false};
+ghost use Prim.Native.Nat.{_*_};
 ghost use lib.ListN.{length};
 ghost use Rattle.lists.specs.Lists.{at};
 ghost use Rattle.answer.specs.Refusals.{Passed};
 ghost use Rattle.field.specs.Tables.{PowerTable, LogTable};
 ghost use Rattle.tag.specs.Sizes.{sizesOutside};
+ghost use Rattle.linear.specs.Rows.{kept};
 ghost use Rattle.mask.specs.Response.{responseLength};
 ghost use Rattle.audit.specs.Challenge.{challengeOf, malformedChallenge};
-ghost use Rattle.audit.specs.Verdict.{judgementNumber, verdictFor, accepts, verdictOf};
+ghost use Rattle.audit.specs.Verdict.{judgementNumber, notThere, verdictFor, namedRow, accepts, verdictOf};
 use crate::Judgement;
 use crate::message::add_named;
 use crate::message::malformed;
@@ -16,6 +18,7 @@ use crate::message::node_in;
 use crate::message::not_there;
 use answer::Outcome;
 use answer::Refusal;
+use linear::Row;
 use tag::Sizes;
 
 // The number of a judgement.
@@ -62,17 +65,27 @@ fn verdict_check(
     Outcome::Done
 }
 
+// The rows of the named places, combined by the challenge.
+fn named_row(powers: &[u8; 510], logs: &[u8; 256], z: Sizes, rows: &[u8], message: &[u8]) -> Row
+    requires { ⌜ PowerTable (now powers) × LogTable (now logs) × (sizesOutside z ≡ false) × (malformedChallenge (now message) ≡ false) × (notThere z (challengeOf (now message)) ≡ false) × (length (now rows) ≡ z .places * z .m) ⌝ }
+    ensures { λ r. ⌜ r ≡ kept (z .m) (namedRow z (now (rows .entry)) (challengeOf (now (message .entry)))) ⌝ }
+{
+    let mut bytes = [0u8; 16];
+    add_named(powers, logs, message, rows, 0, &mut bytes, z.m);
+    Row { bytes }
+}
+
 // Whether the data elements and the row, times the elements of a vector, give tag plus mask sum.
 fn agrees(
     powers: &[u8; 510],
     logs: &[u8; 256],
     z: Sizes,
-    row: &[u8],
+    row: Row,
     response: &[u8],
     vector: &[u8],
 ) -> bool
-    requires { ⌜ PowerTable (now powers) × LogTable (now logs) × (sizesOutside z ≡ false) × (length (now row) ≡ 16) × (length (now response) ≡ responseLength (z .n)) × (length (now vector) ≡ 1088) ⌝ }
-    ensures { λ r. ⌜ r ≡ accepts z (at (now (vector .entry))) (at (now (row .entry))) (now (response .entry)) ⌝ }
+    requires { ⌜ PowerTable (now powers) × LogTable (now logs) × (sizesOutside z ≡ false) × (length (now response) ≡ responseLength (z .n)) × (length (now vector) ≡ 1088) ⌝ }
+    ensures { λ r. ⌜ r ≡ accepts z (at (now (vector .entry))) (at (row .bytes)) (now (response .entry)) ⌝ }
 {
     let n = z.n;
     let masked = tag::product_of(powers, logs, &response[1..n - 1], vector, n - 2);
@@ -83,7 +96,7 @@ fn agrees(
         &vector[n - 2..n],
         2,
     );
-    let tail = tag::product_of(powers, logs, row, &vector[n..n + z.m], z.m);
+    let tail = linear::dot(powers, logs, row, &vector[n..n + z.m], z.m);
     masked ^ clear ^ tail == response[n + 13] ^ response[n + 10]
 }
 
@@ -102,8 +115,7 @@ fn judged(
     let pair = field::tables();
     let powers = pair.powers;
     let logs = pair.logs;
-    let mut row = [0u8; 16];
-    add_named(&powers, &logs, message, rows, 0, &mut row, z.m);
+    let row = named_row(&powers, &logs, z, rows, message);
     let mut vector = [0u8; 1088];
     keystream::fill(
         tag::key_array(key),
@@ -111,7 +123,7 @@ fn judged(
         &mut vector,
         (z.n + z.m) / 64 + 1,
     );
-    if agrees(&powers, &logs, z, &row, response, &vector) {
+    if agrees(&powers, &logs, z, row, response, &vector) {
         Judgement::Accepted
     } else {
         Judgement::Rejected

@@ -24,13 +24,17 @@ use Rattle.tag.specs.Vectors.{product, mixed, added}
 use Rattle.tag.specs.KeyVector.{keyVector, withTag}
 use Rattle.tag.proofs.SizeLaws.{Ranged}
 use Rattle.tag.proofs.StreamLaws.{key-drawn}
-use Rattle.tag.proofs.VectorLaws.{product-same, product-keys}
+use Rattle.tag.proofs.VectorLaws.{mixed-same, product-same, product-keys}
 use Rattle.tag.proofs.AddedLaws.{length-added, added-at, added-below, added-above}
+use Rattle.linear.specs.declared.rows.Row.{Row}
+use Rattle.linear.specs.Rows.{kept}
+use Rattle.linear.proofs.KeptLaws.{kept-at}
 use Rattle.archive.specs.Layout.{blockLength, recordLength, recordStart, placeCount, placeNumber, sizesOf, idOf, markAt, withMarks, stored}
 use Rattle.archive.specs.Blocks.{fileLength, paddingLength, source, coded, codedRecord}
 use Rattle.archive.specs.Calls.{encode, answerFor, archiveAnswer, effectFor}
 use Rattle.archive.proofs.SizeLaws.{number-low, count-low, record-fits}
 use Rattle.archive.proofs.GoodLaws.{good-sizes, good-length}
+use Rattle.archive.proofs.RepairedLaws.{length-marks}
 use Rattle.archive.proofs.BlockLaws.{source-file, coded-row}
 
 -- ---- the answer
@@ -172,6 +176,13 @@ module _ (z : Sizes) (file padding row : List ℕ) where
         (λ i h. let o : 0 + i ≡ i = omega arith in rw o (sym (coded-row z file padding (at row) i h (bytes i h))))
         ∙ put-put (z .n) (z .m) start _ d
 
+-- a row that is kept combines as it was given
+kept-coded : (z : Sizes) (file padding row : List ℕ) {r : Row} → z .m ≤ 16 → r ≡ kept (z .m) (λ i. at row (0 + i))
+    → (e : ℕ) → coded z file padding (at (r .bytes)) e ≡ coded z file padding (at row) e
+unfolding coded
+kept-coded z file padding row h rows e =
+    mixed-same (z .m) _ _ _ e (λ i l. kept-at (z .m) _ h rows i l ∙ ap (at row) (omega arith))
+
 -- ---- the record
 
 withTag-block : (len : ℕ) (vector block : ℕ → ℕ) (e : ℕ) → e < len → withTag len vector block e ≡ block e
@@ -203,10 +214,6 @@ module _ (len start : ℕ) (block : ℕ → ℕ) (key id d : List ℕ) {k nonce 
 
 -- ---- the archive
 
-length-marks : (mark : ℕ → Bool) (s : List ℕ) → length (withMarks mark s) ≡ length s
-unfolding withMarks
-length-marks mark s = length-put 6 12 _ s
-
 -- marks, then the record
 encode-effect : (z : Sizes) (s : List ℕ) (node place : ℕ) (file padding key row : List ℕ)
     → put (recordLength z) (recordStart z (placeNumber z node place)) (codedRecord z (keyVector key (idOf s)) file padding (at row))
@@ -218,17 +225,19 @@ encode-effect z s node place file padding key row =
     rw first
 
 -- the steps of the code: the sizes read, the marks set, the block written, the tag stored
-pub place-filled : (z : Sizes) (s : List ℕ) (node place : ℕ) (file padding key row : List ℕ) {k nonce u w : List ℕ} {v : Stream} {start tag : ℕ}
+pub place-filled : (z : Sizes) (s : List ℕ) (node place : ℕ) (file padding key row : List ℕ) {k nonce u w : List ℕ} {v : Stream} {r : Row} {start tag : ℕ}
     → z ≡ sizesOf s → Encodable z s node place file padding key row → start ≡ recordStart z (placeNumber z node place)
     → k ≡ key → nonce ≡ 1 ∷ 0 ∷ 0 ∷ 0 ∷ take 8 (drop 4 s) → v ≡ fresh k nonce
-    → u ≡ withMarks (over (placeNumber z node place) 1 (λ i. true) (markAt s)) s → w ≡ put (blockLength z) start (coded z file padding (at row)) u
+    → u ≡ withMarks (over (placeNumber z node place) 1 (λ i. true) (markAt s)) s
+    → r ≡ kept (z .m) (λ i. at row (0 + i)) → w ≡ put (blockLength z) start (coded z file padding (at (r .bytes))) u
     → tag ≡ product (blockLength z) (λ e. at w (start + e)) (λ e. drawn (after e v) .byte)
     → set w (start + z .n + z .m) tag ≡ effectFor (sizesOf s) (idOf s) s (encode node place file padding key row)
 unfolding idOf codedRecord
-place-filled z s node place file padding key row {u = u} {start = start} read ok starts keys ids stream marks blocks tags =
+place-filled z s node place file padding key row {u = u} {start = start} read ok starts keys ids stream marks rows blocks tags =
     let end : start + z .n + z .m ≡ start + (z .n + z .m) = omega arith in
     let long : length u ≡ length s = ap length marks ∙ length-marks _ s in
-    rw end (record-written (blockLength z) start (coded z file padding (at row)) key (idOf s) u (omega (arith, ok .fits)) keys ids stream blocks tags)
+    let written = blocks ∙ put-same (blockLength z) start _ _ u (λ e h. kept-coded z file padding row (ok .sizes .m-high) rows e) in
+    rw end (record-written (blockLength z) start (coded z file padding (at row)) key (idOf s) u (omega (arith, ok .fits)) keys ids stream written tags)
     ∙ ap₂ (λ (from : ℕ) (d : List ℕ). put (recordLength z) from (codedRecord z (keyVector key (idOf s)) file padding (at row)) d) starts marks
     ∙ encode-effect z s node place file padding key row
     ∙ ap (λ (x : Sizes). effectFor x (idOf s) s (encode node place file padding key row)) read

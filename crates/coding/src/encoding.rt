@@ -19,6 +19,7 @@ use archive::record_start;
 use archive::set_marks;
 use archive::sizes_in;
 use keystream::Stream;
+use linear::Row;
 use tag::Sizes;
 
 // The first refusal of Encode.
@@ -60,22 +61,35 @@ fn write_block(
     z: Sizes,
     file: &[u8],
     padding: &[u8],
-    row: &[u8],
+    row: Row,
     archive: &mut [u8],
     start: usize,
 )
-    requires { ⌜ PowerTable (now powers) × LogTable (now logs) × (sizesOutside z ≡ false) × (length (now file) ≡ fileLength z) × (length (now padding) ≡ paddingLength z) × (length (now row) ≡ z .m) × (start + blockLength z ≤ length (now archive)) ⌝ }
-    ensures { λ _. ⌜ now (archive .exit) ≡ put (blockLength z) start (coded z (now (file .entry)) (now (padding .entry)) (at (now (row .entry)))) (now (archive .entry)) ⌝ }
+    requires { ⌜ PowerTable (now powers) × LogTable (now logs) × (sizesOutside z ≡ false) × (length (now file) ≡ fileLength z) × (length (now padding) ≡ paddingLength z) × (start + blockLength z ≤ length (now archive)) ⌝ }
+    ensures { λ _. ⌜ now (archive .exit) ≡ put (blockLength z) start (coded z (now (file .entry)) (now (padding .entry)) (at (row .bytes))) (now (archive .entry)) ⌝ }
 {
     let n = z.n;
     let m = z.m;
+    let elements = row.bytes;
     lists::zero(archive, start, n);
-    tag::combine(powers, logs, m, row, 0, 1, file, 0, archive, start, n - 2);
     tag::combine(
         powers,
         logs,
         m,
-        row,
+        &elements,
+        0,
+        1,
+        file,
+        0,
+        archive,
+        start,
+        n - 2,
+    );
+    tag::combine(
+        powers,
+        logs,
+        m,
+        &elements,
         0,
         1,
         padding,
@@ -84,7 +98,7 @@ fn write_block(
         start + (n - 2),
         2,
     );
-    lists::store(row, 0, archive, start + n, m);
+    lists::store(&elements, 0, archive, start + n, m);
 }
 
 // The mark, the block and its tag.
@@ -106,12 +120,13 @@ fn fill_place(
     let z = sizes_in(archive);
     let k = node * z.places + place;
     let start = record_start(z, k);
+    let kept = linear::row_from(row, 0, z.m);
     let vector = Stream::new(
         tag::key_array(key),
         tag::id_nonce(1, 0, 0, 0, &archive[4..12]),
     );
     set_marks(archive, k, 1, true);
-    write_block(&powers, &logs, z, file, padding, row, archive, start);
+    write_block(&powers, &logs, z, file, padding, kept, archive, start);
     let tag = tag::product_drawn(&powers, &logs, archive, start, z.n + z.m, vector);
     archive[start + z.n + z.m] = tag;
 }

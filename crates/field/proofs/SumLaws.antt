@@ -18,14 +18,18 @@ Linear F = (a b : ℕ) → F (plus a b) ≡ plus (F a) (F b)
 pub linear-zero : (F : ℕ → ℕ) → Linear F → F 0 ≡ 0
 linear-zero F l = l 0 0 ∙ xor-self (F 0)
 
--- the steps of a loop that adds one term a turn: none, one more, all
+-- no term, and one term more
 pub sum-none : (f : ℕ → ℕ) → 0 ≡ sum 0 f
 unfolding sum
 sum-none f = refl
 
-pub sum-more : (n : ℕ) (f : ℕ → ℕ) {r v : ℕ} → r ≡ sum n f → v ≡ f n → plus r v ≡ sum (n + 1) f
+pub sum-last : (n : ℕ) (f : ℕ → ℕ) → sum (suc n) f ≡ plus (sum n f) (f n)
 unfolding sum
-sum-more n f e g = rw (add-one, e, g)
+sum-last n f = refl
+
+-- the steps of a loop that adds one term a turn: one more, all
+pub sum-more : (n : ℕ) (f : ℕ → ℕ) {r v : ℕ} → r ≡ sum n f → v ≡ f n → plus r v ≡ sum (n + 1) f
+sum-more n f e g = rw (add-one, e, g) (sym (sum-last n f))
 
 pub sum-all : {n i r : ℕ} (f : ℕ → ℕ) → i ≡ n → r ≡ sum i f → r ≡ sum n f
 sum-all f e p = p ∙ ap (λ k. sum k f) e

@@ -1,8 +1,8 @@
 -- The laws of the field. They hold of all numbers, since the product reads eight bits; where a number has to be a byte, it is said.
-use Prim.Native.Nat.{ℕ, _%_, _<_}
+use Prim.Native.Nat.{ℕ, suc, _%_, _<_}
 use mathlib.Core.Path.{_≡_}
 use mathlib.Core.Logic.{_⊎_}
-use Rattle.field.specs.Field.{plus, times, inverseOf}
+use Rattle.field.specs.Field.{plus, sum, times, inverseOf}
 
 pub record FieldLaws : Type 0 where
   pub commutes : (a b : ℕ) → times a b ≡ times b a
@@ -16,3 +16,6 @@ pub record FieldLaws : Type 0 where
   pub only-inverse : (a b : ℕ) → 0 < a → a < 256 → b < 256 → times a b ≡ 1 → b ≡ inverseOf a
   -- no zero divisors
   pub none : (a b : ℕ) → times a b ≡ 0 → (a % 256 ≡ 0) ⊎ (b % 256 ≡ 0)
+  -- a sum has no term, or one term more than another
+  pub empty-sum : (f : ℕ → ℕ) → 0 ≡ sum 0 f
+  pub longer-sum : (n : ℕ) (f : ℕ → ℕ) → sum (suc n) f ≡ plus (sum n f) (f n)

@@ -8,7 +8,7 @@ use native.Mathlib.Decide.{ℕ-discrete, decLt}
 use lib.Bits.{xor-self, xor-lt}
 use Rattle.field.specs.Field.{plus, sum, times, inverseOf}
 use Rattle.field.proofs.XorLaws.{xors}
-use Rattle.field.proofs.SumLaws.{sum-same, sum-zero, sum-swap, sum-one, sum-lt}
+use Rattle.field.proofs.SumLaws.{sum-none, sum-last, sum-same, sum-zero, sum-swap, sum-one, sum-lt}
 use Rattle.field.proofs.TimesLaws.{times-lt, times-comm, times-assoc, zero-times, times-zero, one-times, times-sum, sum-times}
 use Rattle.field.proofs.InverseLaws.{times-inverse}
 use Rattle.tag.specs.Vectors.{product, mixed}
@@ -67,13 +67,16 @@ op-zero k {f} o i l =
     o .fwd .ext (λ l. 0) (λ l. times 0 0) (λ q b. sym (zero-times 0)) i l ∙ o .fwd .scales 0 (λ l. 0) i l ∙ zero-times (f (λ l. 0) i)
 
 op-product : (k m : ℕ) {f g : Vec → Vec} → Op k f g → (a : Matrix) (x : Vec) → Agree k (f (λ l. product m (a l) x)) (λ i. product m (λ j. f (λ l. a l j) i) x)
-unfolding sum product
-op-product k zero o a x i l = op-zero k o i l
+unfolding product
+op-product k zero {f} o a x i l =
+    o .fwd .ext (λ q. product 0 (a q) x) (λ q. 0) (λ q b. sym (sum-none _)) i l ∙ op-zero k o i l ∙ sum-none (λ j. times (f (λ q. a q j) i) (x j))
 op-product k (suc m) {f} o a x i l =
-    o .fwd .adds (λ q. product m (a q) x) (λ q. times (a q m) (x m)) i l
+    o .fwd .ext (λ q. product (suc m) (a q) x) (λ q. plus (product m (a q) x) (times (a q m) (x m))) (λ q b. sum-last m _) i l
+    ∙ o .fwd .adds (λ q. product m (a q) x) (λ q. times (a q m) (x m)) i l
     ∙ ap₂ plus (op-product k m o a x i l)
     (o .fwd .ext (λ q. times (a q m) (x m)) (λ q. times (x m) (a q m)) (λ q b. times-comm (a q m) (x m)) i l
     ∙ o .fwd .scales (x m) (λ q. a q m) i l ∙ times-comm (x m) (f (λ q. a q m) i))
+    ∙ sym (sum-last m (λ j. times (f (λ q. a q j) i) (x j)))
 
 op-inj : (k : ℕ) {f g : Vec → Vec} → Op k f g → (u v : Vec) → BytesTo k u → BytesTo k v → Agree k (f u) (f v) → Agree k u v
 op-inj k {f} o u v hu hv h i l = sym (o .left u hu i l) ∙ o .bwd .ext (f u) (f v) h i l ∙ o .left v hv i l
@@ -249,8 +252,8 @@ module _ (k m : ℕ) (a e t : Matrix) (ab : (i j : ℕ) → a i j < 256) (R : Re
 -- ---- a row that is not kept
 
 mixed-last : (k : ℕ) (y : Vec) (a : Matrix) (i : ℕ) → mixed (suc k) y a i ≡ plus (mixed k y a i) (times (y k) (a k i))
-unfolding mixed sum
-mixed-last k y a i = refl
+unfolding mixed
+mixed-last k y a i = sum-last k (λ j. times (y j) (a j i))
 
 -- the last coefficient is not zero, and by its inverse the others give the last row
 pub last-combined : LastIsCombined

@@ -1,3 +1,4 @@
+pub mod KeptLaws
 pub mod OpLaws
 pub mod EchelonLaws
 pub mod FactLaws

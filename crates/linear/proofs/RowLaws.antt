@@ -1,5 +1,5 @@
 -- The stores of the helpers make what their operations make. Assumes nothing.
-use mathlib.Core.Path.{_≡_, sym, _∙_, ap}
+use mathlib.Core.Path.{_≡_, refl, sym, _∙_, ap, ap₂}
 use mathlib.Core.Logic.{_≢_}
 use mathlib.Core.List.{List, []}
 use Prim.Native.Nat.{ℕ, _<_, _≤_, _+_}
@@ -12,7 +12,7 @@ use Rattle.field.specs.Field.{plus, times}
 use Rattle.linear.specs.Elimination.{cells}
 use Rattle.linear.specs.Steps.{unitAt, swap, swapOp, scaleOp, clearOp, Made}
 use Rattle.linear.proofs.OpLaws.{sel-same, sel-other}
-use Rattle.linear.proofs.ArrayLaws.{cell-same, cell-other, stored}
+use Rattle.linear.proofs.ArrayLaws.{cell-same, cell-other, stored, stored-kept}
 
 -- row i of the unit matrix
 pub units : (i j : ℕ) → i < 16 → j < 16 → at (set (replicate 16 0) i 1) j ≡ unitAt j i
@@ -45,24 +45,50 @@ scales a r x v n h e p q l b = go (ℕ-discrete p r)
     go (yes y) = cell-same a r p q v y (omega arith) ∙ e q b ∙ ap (λ (z : ℕ). times x (cells a z q)) (sym y) ∙ sym (sel-same p r _ _ y)
     go (no y) = cell-other a r p q v y ∙ sym (sel-other p r _ _ y)
 
--- the rows below i are cleared by the column of `by`, and the others are as they were
+-- `out` is a with its rows below i cleared by the column of `by`
 module _ (a by : List (List ℕ)) (r col : ℕ) where
-  abbrev pub Done : List (List ℕ) → ℕ → Type 0
-  Done out i = (p : ℕ) → p < i → (q : ℕ) → q < 16 → cells out p q ≡ clearOp r (λ l. cells by l col) (λ l. cells a l q) p
+  abbrev cleared : ℕ → List ℕ → Type 0
+  cleared p v = (q : ℕ) → q < 16 → at v q ≡ clearOp r (λ l. cells by l col) (λ l. cells a l q) p
 
-  abbrev pub Kept : List (List ℕ) → ℕ → Type 0
-  Kept out i = (p : ℕ) → i ≤ p → getD out p [] ≡ getD a p []
+  pub record Clearing (out : List (List ℕ)) (i : ℕ) : Type 0 where
+    pub long : length out ≡ 16
+    pub done : (p : ℕ) → p < i → cleared p (getD out p [])
+    pub kept : (p : ℕ) → i ≤ p → getD out p [] ≡ getD a p []
+    -- the row that clears the others
+    pub pivot : getD out r [] ≡ getD a r []
+
+  pub clear-start : length a ≡ 16 → Clearing a 0
+  clear-start l = record { long = l; done = λ p h. absurd (omega arith); kept = λ p h. refl; pivot = refl }
 
   -- row r itself
-  pub clear-skip : (out : List (List ℕ)) (i : ℕ) → i ≡ r → Done out i → Kept out i → Done out (i + 1)
-  clear-skip out i e d h p l q b = go (ℕ-discrete p i)
+  pub clear-skip : (out : List (List ℕ)) (i : ℕ) → i ≡ r → Clearing out i → Clearing out (i + 1)
+  clear-skip out i e w =
+      record { long = w .long; done = λ p l. go p l (ℕ-discrete p i); kept = λ p l. w .kept p (omega arith); pivot = w .pivot }
     where
-      go : Dec (p ≡ i) → cells out p q ≡ clearOp r (λ l. cells by l col) (λ l. cells a l q) p
-      go (yes x) = ap (λ (y : List ℕ). at y q) (h p (omega arith)) ∙ sym (sel-same p r _ _ (x ∙ e))
-      go (no x) = d p (omega arith) q b
+      go : (p : ℕ) → p < i + 1 → Dec (p ≡ i) → cleared p (getD out p [])
+      go p l (yes x) q b = ap (λ (y : List ℕ). at y q) (w .kept p (omega arith)) ∙ sym (sel-same p r _ _ (x ∙ e))
+      go p l (no x) q b = w .done p (omega arith) q b
 
-  pub clear-store : (out : List (List ℕ)) (i : ℕ) (v : List ℕ) → i ≢ r → i < length out → Done out i
-      → ((q : ℕ) → q < 16 → at v q ≡ plus (cells a i q) (times (cells by i col) (cells a r q))) → Done (set out i v) (i + 1)
-  clear-store out i v e n d h =
-      stored [] out i v (λ p x. (q : ℕ) → q < 16 → at x q ≡ clearOp r (λ l. cells by l col) (λ l. cells a l q) p) n d
-      (λ q b. h q b ∙ sym (sel-other i r _ _ e))
+  -- the element of the next row by which it is cleared
+  pub clear-by : (out : List (List ℕ)) (i : ℕ) → Clearing out i → cells out i col ≡ cells a i col
+  clear-by out i w = ap (λ (v : List ℕ). at v col) (w .kept i (omega arith))
+
+  -- another row
+  pub clear-store : (out : List (List ℕ)) (i x : ℕ) (v : List ℕ) → i ≢ r → i < 16 → Clearing out i → x ≡ cells by i col
+      → ((q : ℕ) → q < 16 → at v q ≡ plus (cells out i q) (times x (cells out r q))) → Clearing (set out i v) (i + 1)
+  clear-store out i x v other l w e h =
+      record {
+        long = length-set out i v ∙ w .long;
+        done = stored [] out i v cleared (omega (arith, w .long)) (w .done) made;
+        kept = λ p b. stored-kept [] out i p v (omega arith) ∙ w .kept p (omega arith);
+        pivot = getD-set-other out i r v [] (λ y. other (sym y)) ∙ w .pivot;
+      }
+    where
+      made : cleared i v
+      made q b =
+          h q b
+          ∙ ap₂ (λ (y z : List ℕ). plus (at y q) (times x (at z q))) (w .kept i (omega arith)) (w .pivot)
+          ∙ ap (λ (y : ℕ). plus (cells a i q) (times y (cells a r q))) e ∙ sym (sel-other i r _ _ other)
+
+  pub clear-end : (out : List (List ℕ)) (k i : ℕ) → k ≤ i → Clearing out i → Made k (clearOp r (λ l. cells by l col)) a out
+  clear-end out k i h w p q l b = w .done p (omega arith) q b

@@ -1,12 +1,12 @@
 -- What the loop over the columns keeps: at the start, by a column without a pivot, by one with a pivot, and at the end. Assumes nothing.
-use mathlib.Core.Path.{_≡_, refl, _∙_, ap, subst}
+use mathlib.Core.Path.{_≡_, sym, _∙_, ap, subst}
 use mathlib.Core.List.{List}
 use Prim.Native.Nat.{ℕ, _<_, _≤_, _+_}
 use native.Mathlib.Omega.{arith}
 use Rattle.field.specs.Field.{times}
 use Rattle.linear.specs.Elimination.{Matrix, cells, Reduces}
-use Rattle.linear.specs.Steps.{Vec, unitAt, swapOp, scaleOp, clearOp, Made, Pivot}
-use Rattle.linear.proofs.OpLaws.{sel-self, swap-op, scale-op, clear-op, id-op}
+use Rattle.linear.specs.Steps.{Vec, unitAt, swapOp, scaleOp, clearOp, Made}
+use Rattle.linear.proofs.OpLaws.{sel-self, swap-op, scale-op, clear-op}
 use Rattle.linear.proofs.EchelonLaws.{Reduction, Shape, reduction-start, reduction-next, shape-start, shape-kept, shape-skip, shape-more, swap-kept, scale-kept, clear-kept, clear-col}
 use Rattle.linear.proofs.FactLaws.{entry-lt, reduces}
 
@@ -19,23 +19,29 @@ pub record Head (k m : ℕ) (a e t : Matrix) (rank col : ℕ) : Type 0 where
 pub head-start : (k m : ℕ) (a t : Matrix) → ((i j : ℕ) → i < k → j < k → t i j ≡ unitAt j i) → Head k m a a t 0 0
 head-start k m a t h = record { most = omega arith; pivots = λ i. 0; reduction = reduction-start k m a t h; shape = shape-start k a }
 
-pub head-skip : (k m : ℕ) (a t : Matrix) (e : List (List ℕ)) (rank col q : ℕ) → Head k m a (cells e) t rank col → col < m → Pivot e col rank k q → k ≤ q
-    → Head k m a (cells e) t rank (col + 1)
-head-skip k m a t e rank col q h l p b =
+pub head-at : {k m : ℕ} {a e t : Matrix} {rank col col₀ : ℕ} → col ≡ col₀ → Head k m a e t rank col₀ → Head k m a e t rank col
+head-at {k} {m} {a} {e} {t} {rank} same h = subst (Head k m a e t rank) (sym same) h
+
+-- what the search for a pivot keeps: of the rows from `from` on, those before r have zero in the column
+abbrev pub Passed : Matrix → ℕ → ℕ → ℕ → Type 0
+Passed e col from r = (i : ℕ) → i < r → from ≤ i → e i col ≡ 0
+
+pub head-skip : (k m : ℕ) (a e t : Matrix) (rank col r : ℕ) → Head k m a e t rank col → col < m → Passed e col rank r → k ≤ r → Head k m a e t rank (col + 1)
+head-skip k m a e t rank col r h l p b =
     record {
       most = omega arith;
       pivots = h .pivots;
       reduction = h .reduction;
-      shape = shape-skip k col rank (cells e) (h .pivots) (h .shape) (λ i n r. p .passed i (omega arith) r);
+      shape = shape-skip k col rank e (h .pivots) (h .shape) (λ i n low. p i (omega arith) low);
     }
 
 -- a turn of the loop: rows swapped, the pivot's row scaled by x, the other rows cleared
 module _ (k m : ℕ) (a : Matrix) (ab : (i j : ℕ) → a i j < 256) (hk : k ≤ 16) (hm : m ≤ 16) (e t e₁ t₁ e₂ t₂ e₃ t₃ : List (List ℕ)) (rank col q x : ℕ)
-    (h : Head k m a (cells e) (cells t) rank col) (l : col < m) (p : Pivot e col rank k q) (lq : q < k) (hx : times x (cells e q col) ≡ 1)
+    (h : Head k m a (cells e) (cells t) rank col) (l : col < m) (low : rank ≤ q) (lq : q < k) (hx : times x (cells e q col) ≡ 1)
     (me₁ : Made 16 (swapOp rank q) e e₁) (mt₁ : Made 16 (swapOp rank q) t t₁) (me₂ : Made 16 (scaleOp rank x) e₁ e₂) (mt₂ : Made 16 (scaleOp rank x) t₁ t₂)
     (mt₃ : Made k (clearOp rank (λ i. cells e₂ i col)) t₂ t₃) (me₃ : Made k (clearOp rank (λ i. cells e₂ i col)) e₂ e₃) where
   hr : rank < k
-  hr = omega (arith, p .low)
+  hr = omega arith
 
   r₁ : Reduction k m a (cells e₁) (cells t₁)
   r₁ =
@@ -55,7 +61,7 @@ module _ (k m : ℕ) (a : Matrix) (ab : (i j : ℕ) → a i j < 256) (hk : k ≤
   s₁ : Shape k col rank (cells e₁) (h .pivots)
   s₁ =
       shape-kept k col rank (cells e) (cells e₁) (h .pivots) (h .shape)
-      (λ i j n b. me₁ i j (omega arith) (omega arith) ∙ swap-kept k col rank (cells e) (h .pivots) (h .shape) hr q (p .low) lq i j n b)
+      (λ i j n b. me₁ i j (omega arith) (omega arith) ∙ swap-kept k col rank (cells e) (h .pivots) (h .shape) hr q low lq i j n b)
 
   s₂ : Shape k col rank (cells e₂) (h .pivots)
   s₂ =
@@ -83,10 +89,6 @@ module _ (k m : ℕ) (a : Matrix) (ab : (i j : ℕ) → a i j < 256) (hk : k ≤
             (λ i n. me₃ i col n (omega arith) ∙ clear-col rank (λ i. cells e₂ i col) one i (entry-lt k m a (cells e₂) (cells t₂) ab r₂ i col n l));
       }
 
-pub head-end : (k m : ℕ) (a e t u : Matrix) (rank col : ℕ) → ((i j : ℕ) → a i j < 256) → Head k m a e t rank col → m ≤ col
-    → ((i j : ℕ) → i < k → u i j ≡ t i j) → Reduces k m a u rank
-head-end k m a e t u rank col ab h l b = reduces k m a e u ab packed rank (h .pivots) (subst (λ (n : ℕ). Shape k n rank e (h .pivots)) (omega (arith, h .most)) (h .shape))
-  where
-    packed : Reduction k m a e u
-    packed =
-        reduction-next k m a e t e u (id-op k) (h .reduction) (λ i j n c. refl) (λ i j n c. b i j n)
+pub head-end : (k m : ℕ) (a e t : Matrix) (rank col : ℕ) → ((i j : ℕ) → a i j < 256) → Head k m a e t rank col → m ≤ col → Reduces k m a t rank
+head-end k m a e t rank col ab h l =
+    reduces k m a e t ab (h .reduction) rank (h .pivots) (subst (λ (n : ℕ). Shape k n rank e (h .pivots)) (omega (arith, h .most)) (h .shape))

@@ -6,17 +6,13 @@ use mathlib.Core.List.{List, []}
 use lib.ListN.{getD}
 use Rattle.lists.specs.Lists.{at}
 use Rattle.tag.specs.Vectors.{product, mixed}
-use Rattle.linear.specs.declared.Row.{Row}
 
 abbrev pub Matrix : Type 0
 Matrix = ℕ → ℕ → ℕ
 
--- the matrix of an array of arrays, and of an array of rows
+-- the matrix of an array of arrays
 abbrev pub cells : List (List ℕ) → Matrix
 cells a i j = at (getD a i []) j
-
-abbrev pub rowCells : List Row → Matrix
-rowCells a i j = at (getD a i (record { bytes = [] }) .bytes) j
 
 -- the first k elements are bytes
 abbrev pub BytesTo : ℕ → (ℕ → ℕ) → Type 0

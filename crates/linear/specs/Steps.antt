@@ -1,5 +1,5 @@
 -- What the private contracts cite. A row operation acts on every column of a matrix alike: it is a function of a column.
-use Prim.Native.Nat.{ℕ, _<_, _≤_}
+use Prim.Native.Nat.{ℕ, _<_}
 use mathlib.Core.Path.{_≡_}
 use mathlib.Core.List.{List}
 use lib.Dec.{eqb}
@@ -36,10 +36,3 @@ clearOp r b u p = sel p r (u p) (plus (u p) (times (b p) (u r)))
 -- the operation f makes the matrix s of the matrix a, in the first k rows
 abbrev pub Made : ℕ → (Vec → Vec) → List (List ℕ) → List (List ℕ) → Type 0
 Made k f a s = (i j : ℕ) → i < k → j < 16 → cells s i j ≡ f (λ l. cells a l j) i
-
--- the first row from `from` on, below k, whose element in the column is not zero; k where there is none
-pub record Pivot (a : List (List ℕ)) (col from k r : ℕ) : Type 0 where
-  pub low : from ≤ r
-  pub high : r ≤ k
-  pub found : r < k → 0 < cells a r col
-  pub passed : (i : ℕ) → i < r → from ≤ i → cells a i col ≡ 0

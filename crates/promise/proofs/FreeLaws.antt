@@ -10,7 +10,8 @@ use borrow.Author.Tests.{eq-eqb, ne-eqb}
 use Rattle.lists.specs.Lists.{at}
 use Rattle.answer.specs.declared.Outcome.the-variants.{Done}
 use Rattle.answer.specs.declared.Outcome.the-variants.{Refused as RefusedOutcome}
-use Rattle.answer.specs.declared.Refusal.the-variants.{Length, BadArchive, Unreadable}
+use Rattle.answer.specs.declared.Refusal.the-variants.{Length, BadArchive}
+use Rattle.answer.specs.Numbers.{refusalNumber}
 use Rattle.answer.specs.Refusals.{refuse, differs}
 use Rattle.answer.proofs.RefusalLaws.{never-both, same-refusal}
 use Rattle.field.specs.Field.{times}
@@ -22,6 +23,7 @@ use Rattle.archive.specs.Layout.{placeCount, markAt, byteIn, badArchive}
 use Rattle.archive.specs.Blocks.{fileLength, coded}
 use Rattle.archive.specs.Read.{Bytes, rowIn, Blind, among, Enough, ReadFor, ReadAllows}
 use Rattle.archive.specs.Inventory.{Listed, InventoryFor, InventoryAllows}
+use Rattle.archive.specs.Counted.{countedNumber, countedValue}
 use Rattle.archive.specs.declared.Counted.{Counted}
 use Rattle.archive.specs.declared.Counted.the-variants.{Count, Refused}
 use Rattle.tag.proofs.SizeLaws.{Ranged}
@@ -80,18 +82,21 @@ module _ (s : Setting) (F : Fit s) (t : Table) (fine : AllFine (s .z) t) where
 
   -- ---- Inventory
 
-  pub inventory : (out : List ℕ) (answer : Counted) (list : List ℕ) → InventoryAllows A out answer list
-      → (length out ≡ placeCount (s .z) → (count : ℕ) × (answer ≡ Count count) × Listed (s .z) (λ node place. isFilled (t node place)) count list)
-      × (length out ≢ placeCount (s .z) → answer ≡ Refused Length)
+  -- what demand 3 says of an answer and a list
+  abbrev Inventoried : List ℕ → Counted → List ℕ → Type 0
+  Inventoried out answer list =
+      (length out ≡ placeCount (s .z)
+      → (countedNumber answer ≡ 0) × ((old : ℕ) → Listed (s .z) (λ node place. isFilled (t node place)) (countedValue answer old) list))
+      × (length out ≢ placeCount (s .z) → countedNumber answer ≡ 2)
+
+  pub inventory : (out : List ℕ) (answer : Counted) (list : List ℕ) → InventoryAllows A out answer list → Inventoried out answer list
   inventory out answer list allows = go answer (subst (λ (z : Sizes). InventoryFor z A out answer list) (image-sizes s F t) allows)
     where
-      go : (answer : Counted) → InventoryFor (s .z) A out answer list
-          → (length out ≡ placeCount (s .z) → (count : ℕ) × (answer ≡ Count count) × Listed (s .z) (λ node place. isFilled (t node place)) count list)
-          × (length out ≢ placeCount (s .z) → answer ≡ Refused Length)
+      go : (answer : Counted) → InventoryFor (s .z) A out answer list → Inventoried out answer list
       go (Count k) w =
-          (λ e. (k, refl, listed-same (s .z) (F .ranged) _ _ (image-filled s F t) k list (w .1)), λ e. absurd (never-both (w .0) (before-wrong out _ e)))
+          (λ e. (refl, λ old. listed-same (s .z) (F .ranged) _ _ (image-filled s F t) k list (w .1)), λ e. absurd (never-both (w .0) (before-wrong out _ e)))
       go (Refused r) w =
-          (λ e. absurd (never-both (before-right out _ e) (w .1)), λ e. ap Refused (same-refusal (w .1) (before-wrong out _ e)))
+          (λ e. absurd (never-both (before-right out _ e) (w .1)), λ e. ap refusalNumber (same-refusal (w .1) (before-wrong out _ e)))
 
   -- ---- Read
 
@@ -119,26 +124,27 @@ module _ (s : Setting) (F : Fit s) (t : Table) (fine : AllFine (s .z) t) where
       sym (image-number s F t k e h (omega arith) ∙ record-block s F t x e (omega arith)
       ∙ sum-same (s .z .m) _ _ (λ i hi. ap₂ times (sym (row-is k i h hi)) (source-file (s .z) (s .file) (s .padding) i e he)))
 
+  -- what demand 3 says of an answer and a file
+  abbrev Answered : Counted → List ℕ → Type 0
+  Answered answer file =
+      ((countedNumber answer ≡ 8) ↔ Blind (s .z) isF row)
+      × ((¬ Blind (s .z) isF row) → (countedNumber answer ≡ 0) × (file ≡ s .file) × ((old : ℕ) → Enough (s .z) isF row (countedValue answer old)))
+
   pub read : length (s .file) ≡ fileLength (s .z) → Bytes (s .file)
-      → (out : List ℕ) (answer : Counted) (file : List ℕ) → length out ≡ fileLength (s .z) → ReadAllows A out answer file
-      → ((answer ≡ Refused Unreadable) ↔ Blind (s .z) isF row)
-      × ((¬ Blind (s .z) isF row) → (count : ℕ) × (answer ≡ Count count) × (file ≡ s .file) × Enough (s .z) isF row count)
+      → (out : List ℕ) (answer : Counted) (file : List ℕ) → length out ≡ fileLength (s .z) → ReadAllows A out answer file → Answered answer file
   read size bytes out answer file long allows = go answer (subst (λ (z : Sizes). ReadFor z A out answer file) (image-sizes s F t) allows)
     where
-      go : (answer : Counted) → ReadFor (s .z) A out answer file
-          → ((answer ≡ Refused Unreadable) ↔ Blind (s .z) isF row)
-          × ((¬ Blind (s .z) isF row) → (count : ℕ) × (answer ≡ Count count) × (file ≡ s .file) × Enough (s .z) isF row count)
+      go : (answer : Counted) → ReadFor (s .z) A out answer file → Answered answer file
       go (Count k) w = (
-        (λ e. let x : _≡_ {A = ℕ} 0 1 = cc in absurd (omega arith), λ b. absurd (w .1 (to-archive b))),
+        (λ e. absurd (omega arith), λ b. absurd (w .1 (to-archive b))),
         λ nb. (
-          k,
           refl,
           solution-only (s .z) A file (s .file) (w .2) (F .ranged .n-low) size bytes (λ k e h tk he. file-solves k e h he) (w .1),
-          enough-same (s .z) _ _ _ _ k mark-is row-is (w .3),
+          λ old. enough-same (s .z) _ _ _ _ k mark-is row-is (w .3),
         ),
       )
       go (Refused r) w =
           ⊎-elim
           (λ x. absurd (never-both (before-right out _ long) x))
-          (λ x. ((λ e. to-table (x .2), λ b. ap Refused (x .1)), λ nb. absurd (nb (to-table (x .2)))))
+          (λ x. ((λ e. to-table (x .2), λ b. ap refusalNumber (x .1)), λ nb. absurd (nb (to-table (x .2)))))
           (w .1)

@@ -18,14 +18,14 @@ use Rattle.tag.specs.KeyVector.{withTag}
 use Rattle.tag.proofs.VectorLaws.{mixed-scale, mixed-sum, mixed-same, mixed-zero, tags-combine}
 use Rattle.archive.specs.Layout.{placeCount, blockLength, recordLength, placeNumber, sizesOf, idOf, markAt, filledIn, byteIn, badArchive, stored, opened}
 use Rattle.archive.specs.Blocks.{source, coded, codedRecord}
-use Rattle.archive.specs.Calls.{repairByte, targetByte}
+use Rattle.archive.specs.Calls.{repairSum, repairByte, targetByte}
 use Rattle.archive.specs.Read.{rowIn}
 use Rattle.tag.proofs.SizeLaws.{Ranged}
 use Rattle.archive.proofs.SizeLaws.{number-low, count-low}
 use Rattle.archive.proofs.LayoutLaws.{id-back, byte-back, mark-back, sizes-back, good-back, archive-same}
 use Rattle.archive.proofs.StoreLaws.{stored-is}
 use Rattle.archive.proofs.BlockLaws.{coded-row}
-use Rattle.promise.specs.Table.{Place, empty, filled, Table, allEmpty, isFilled, element, numbered, repairSum, repairedRow, written}
+use Rattle.promise.specs.Table.{Place, empty, filled, Table, allEmpty, isFilled, element, numbered, repairedRow, written}
 use Rattle.promise.specs.Image.{Setting, vector, placeRecord, image}
 use Rattle.promise.proofs.TableLaws.{numbered-at, numbered-written, Fine, element-lt}
 

@@ -9,7 +9,7 @@ use native.Mathlib.Omega.{arith}
 use lib.Bits.{xor-zero-r}
 use lib.Dec.{lit<, lit≤}
 use Rattle.lists.specs.Lists.{at, tab, anyOf, anyBelow}
-use Rattle.answer.specs.Refusals.{refuse, outside}
+use Rattle.answer.specs.Refusals.{refuse, outside, afterwards}
 use Rattle.field.specs.Field.{plus, sum, modulus, xtime, xtimes, times, last, inverseOf}
 use Rattle.field.specs.Inverse.{inverted}
 use Rattle.field.proofs.TimesLaws.{one-times, zero-times, times-zero}
@@ -21,7 +21,7 @@ use Rattle.tag.specs.Vectors.{product, mixed}
 use Rattle.tag.specs.KeyVector.{withTag}
 use Rattle.mask.specs.Masks.{auxiliary, mask, maskSum}
 use Rattle.mask.specs.Response.{responseBytes, dataIn}
-use Rattle.audit.specs.Challenge.{items, challengeBytes}
+use Rattle.audit.specs.Challenge.{items, challengeBytes, outOfRule, challengeAnswer, challengeOut}
 use Rattle.audit.specs.Verdict.{namedRow, appended, accepts}
 use Rattle.archive.specs.Layout.{sizesOf, markAt, byteIn, badFor}
 use Rattle.archive.specs.Blocks.{source, coded, codedRecord}
@@ -180,7 +180,7 @@ reads-one =
 -- ---- the table
 
 pub worked : W.Worked
-unfolding sum times xtimes xtime modulus inverted inverseOf last withTag product source mixed coded codedRecord tab auxiliary mask maskSum responseBytes dataIn pack packed bitsOf bitOf widths number items challengeBytes namedRow appended accepts namedByte byteIn
+unfolding sum times xtimes xtime modulus inverted inverseOf last withTag product source mixed coded codedRecord tab auxiliary mask maskSum responseBytes dataIn pack packed bitsOf bitOf widths number items challengeBytes challengeAnswer challengeOut outOfRule refuse outside afterwards anyOf anyBelow namedRow appended accepts namedByte byteIn
 worked =
     record {
       product-83 = refl;
@@ -190,6 +190,7 @@ worked =
       b1 = refl;
       b2 = refl;
       combination = refl;
+      tags = refl;
       elements = refl;
       mask-17 = refl;
       sum-4c = refl;
@@ -199,6 +200,7 @@ worked =
       accepted = refl;
       changed = refl;
       changed-both = refl;
+      asked = refl;
       message = refl;
       read-two = reads-two;
       read-one = reads-one;

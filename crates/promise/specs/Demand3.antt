@@ -8,7 +8,6 @@ use mathlib.Core.List.{List, [], _∷_}
 use lib.ListN.{length}
 use Rattle.lists.specs.Lists.{at, tab, flat}
 use Rattle.answer.specs.declared.Outcome.the-variants.{Done}
-use Rattle.answer.specs.declared.Refusal.the-variants.{Length, Unreadable}
 use Rattle.field.specs.Field.{plus}
 use Rattle.tag.specs.declared.Sizes.{Sizes}
 use Rattle.tag.specs.Vectors.{product, mixed}
@@ -24,8 +23,8 @@ use Rattle.archive.specs.Calls.{Call, encode, lose, repair, archiveAnswers, arc
 use Rattle.archive.specs.Prove.{proveAnswer, responseFor, proveOut}
 use Rattle.archive.specs.Read.{Bytes, rowIn, Blind, Enough, ReadAllows}
 use Rattle.archive.specs.Inventory.{Listed, InventoryAllows}
+use Rattle.archive.specs.Counted.{countedNumber, countedValue}
 use Rattle.archive.specs.declared.Counted.{Counted}
-use Rattle.archive.specs.declared.Counted.the-variants.{Count, Refused}
 use Rattle.promise.specs.Table.{filled, Table, allEmpty, isFilled, element, numbered, tableAnswer, tableAfter, tableAnswers, tableRun}
 use Rattle.promise.specs.Image.{Setting, vector}
 
@@ -142,10 +141,12 @@ pub record Demand (g : Given) (calls : List Call) (t : Table) (archive : List �
   pub marks : (k : ℕ) → k < 48 → markAt archive k ≡ isFilled (numbered (g .z) t k)
   pub rows : (node place : ℕ) (row : List ℕ) → node < g .z .nodes → place < g .z .places → t node place ≡ filled row
       → tab (g .z .m) (rowIn (g .z) archive (placeNumber (g .z) node place)) ≡ row
-  -- "Inventory names exactly its filled places, each once, and their number"; "another length is 2"
+  -- "Inventory names exactly its filled places, each once, and their number"; "another length is 2". The number is the value that it hands
+  -- back, whatever stood there before
   pub inventory : (out : List ℕ) (answer : Counted) (list : List ℕ) → InventoryAllows archive out answer list
-      → (length out ≡ placeCount (g .z) → (count : ℕ) × (answer ≡ Count count) × Listed (g .z) (λ node place. isFilled (t node place)) count list)
-      × (length out ≢ placeCount (g .z) → answer ≡ Refused Length)
+      → (length out ≡ placeCount (g .z)
+      → (countedNumber answer ≡ 0) × ((old : ℕ) → Listed (g .z) (λ node place. isFilled (t node place)) (countedValue answer old) list))
+      × (length out ≢ placeCount (g .z) → countedNumber answer ≡ 2)
   -- "Each filled place holds the source blocks combined by its row, and that combination's tag"
   pub places : (node place : ℕ) (row : List ℕ) → node < g .z .nodes → place < g .z .places → t node place ≡ filled row
       → HoldsCoded g archive (placeNumber (g .z) node place) row
@@ -158,10 +159,10 @@ pub record Demand (g : Given) (calls : List Call) (t : Table) (archive : List �
   -- "Read, lent an output of the file's length, is refused, with 8, exactly when some non-zero vector of m elements is orthogonal to
   -- every filled row, and otherwise writes the file"; the places it consulted are enough of the table's too
   pub read : (out : List ℕ) (answer : Counted) (file : List ℕ) → length out ≡ fileLength (g .z) → ReadAllows archive out answer file
-      → ((answer ≡ Refused Unreadable) ↔ TableBlind (g .z) t)
+      → ((countedNumber answer ≡ 8) ↔ TableBlind (g .z) t)
       × ((¬ TableBlind (g .z) t)
-      → (count : ℕ) × (answer ≡ Count count) × (file ≡ g .file)
-      × Enough (g .z) (λ k. isFilled (numbered (g .z) t k)) (λ k. element (numbered (g .z) t k)) count)
+      → (countedNumber answer ≡ 0) × (file ≡ g .file)
+      × ((old : ℕ) → Enough (g .z) (λ k. isFilled (numbered (g .z) t k)) (λ k. element (numbered (g .z) t k)) (countedValue answer old)))
 
 -- "The table, all empty at first, is fed the same calls"
 abbrev pub Demand3 : Type 0

@@ -3,15 +3,13 @@
 use Prim.Native.Nat.{ℕ, _/_, _%_}
 use mathlib.Core.Bool.{Bool, true, false}
 use mathlib.Core.List.{List, [], _∷_}
-use lib.ListN.{length}
 use lib.Dec.{eqb, ltb}
 use Rattle.lists.specs.Lists.{pick, at, tab, over}
 use Rattle.answer.specs.declared.Outcome.{Outcome}
 use Rattle.answer.specs.Refusals.{afterwards}
-use Rattle.field.specs.Field.{sum, times}
 use Rattle.tag.specs.declared.Sizes.{Sizes}
 use Rattle.archive.specs.Layout.{placeCount}
-use Rattle.archive.specs.Calls.{Call, encode, lose, repair, answerFor, coefficient}
+use Rattle.archive.specs.Calls.{Call, encode, lose, repair, repairSum, answerFor}
 
 -- "Its state: for each place, empty or a row of m elements"
 pub data Place : Type 0 where
@@ -42,13 +40,7 @@ numbered z t k = pick (ltb k (placeCount z)) (t (k / z .places) (k % z .places))
 abbrev pub tableAnswer : Sizes → Table → Call → Outcome
 tableAnswer z t c = answerFor z (λ node place. isFilled (t node place)) c
 
--- "the sum over helpers i and repair blocks j of theta(i,j,k) times the sum over places l of gamma(i,j,l) times" what x gives for
--- the helper's place l
-abbrev pub repairSum : Sizes → List ℕ → ℕ → List ℕ → List ℕ → ℕ → (ℕ → ℕ → ℕ) → ℕ
-repairSum z helpers q gammas thetas k x =
-    sum (length helpers) (λ i. sum q (λ j.
-    times (coefficient z q thetas i j k) (sum (z .places) (λ l. times (coefficient z q gammas i j l) (x (at helpers i) l)))))
-
+-- "the sum over helpers i and repair blocks j of theta(i,j,k) times the sum over places l of gamma(i,j,l) times the helper's row l"
 unfoldable pub repairedRow : Sizes → Table → List ℕ → ℕ → List ℕ → List ℕ → ℕ → List ℕ
 repairedRow z t helpers q gammas thetas k = tab (z .m) (λ i. repairSum z helpers q gammas thetas k (λ node l. element (t node l) i))
 

@@ -4,8 +4,8 @@ use mathlib.Core.Path.{_≡_}
 use mathlib.Core.Bool.{Bool, true, false}
 use mathlib.Core.List.{List, [], _∷_}
 use lib.ListN.{length}
-use Rattle.answer.specs.declared.Outcome.the-variants.{Done, Refused}
-use Rattle.answer.specs.declared.Refusal.the-variants.{Size}
+use Rattle.answer.specs.declared.Outcome.the-variants.{Done}
+use Rattle.answer.specs.Numbers.{outcomeNumber}
 use Rattle.bits.specs.Fields.{pack, packed}
 use Rattle.tag.specs.declared.Sizes.{Sizes}
 use Rattle.tag.specs.Sizes.{sizesOutside}
@@ -40,8 +40,8 @@ pub record Tries : Type 0 where
   -- "Header for n=3, m=2, M=1, N=3: 10 06 21 60, length 36; n=2 and n=1,025 refused 1; boxes 0 and 2 filled: marks a0 00 00 00 00 00"
   pub header : pack (sizeFields (sizes 3)) ≡ 0x10 ∷ 0x06 ∷ 0x21 ∷ 0x60 ∷ []
   pub length-36 : archiveLength (sizes 3) ≡ 36
-  pub n-2 : (id archive : List ℕ) → openAnswer (sizes 2) id archive ≡ Refused Size
-  pub n-1025 : (id archive : List ℕ) → openAnswer (sizes 1025) id archive ≡ Refused Size
+  pub n-2 : (id archive : List ℕ) → outcomeNumber (openAnswer (sizes 2) id archive) ≡ 1
+  pub n-1025 : (id archive : List ℕ) → outcomeNumber (openAnswer (sizes 1025) id archive) ≡ 1
   pub marks-a0 : packed 6 marks ≡ 0xa0 ∷ 0 ∷ 0 ∷ 0 ∷ 0 ∷ 0 ∷ []
   -- Inventory of that archive may list place 0 of box 2 first, 8·2+0, then that of box 0; not a place twice
   pub listed : InventoryAllows W.two (0 ∷ 0 ∷ 0 ∷ []) (Count 2) (16 ∷ 0 ∷ 0 ∷ [])

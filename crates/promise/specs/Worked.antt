@@ -14,7 +14,7 @@ use Rattle.tag.specs.declared.Sizes.{Sizes}
 use Rattle.tag.specs.Vectors.{product}
 use Rattle.mask.specs.Masks.{auxiliary, mask, maskSum}
 use Rattle.mask.specs.Response.{responseBytes, sumIn, tagIn}
-use Rattle.audit.specs.Challenge.{Challenge, challengeBytes}
+use Rattle.audit.specs.Challenge.{Challenge, challengeAnswer, challengeOut}
 use Rattle.audit.specs.Verdict.{namedRow, appended, accepts}
 use Rattle.archive.specs.Blocks.{source, codedRecord}
 use Rattle.archive.specs.Prove.{namedByte}
@@ -90,6 +90,8 @@ pub record Worked : Type 0 where
   pub b2 : tab 6 (withTag 5 vector (source z file padding 1)) ≡ 0x01 ∷ 0x00 ∷ 0x04 ∷ 0x00 ∷ 0x01 ∷ 0x82 ∷ []
   -- "02·b1+03·b2 = ad 02 0c 02 03, tag 06"
   pub combination : tab 6 (codedRecord z vector file padding row) ≡ 0xad ∷ 0x02 ∷ 0x0c ∷ 0x02 ∷ 0x03 ∷ 0x06 ∷ []
+  -- the tags c0 and 82 combined by the same coefficients
+  pub tags : plus (times 0x02 0xc0) (times 0x03 0x82) ≡ 0x06
   -- "Mask rows 05, 09: auxiliary b9, f7; coefficients 01, 02: mask 17, sum 4c"
   pub elements : auxiliary 3 vector maskRows ≡ 0xb9 ∷ 0xf7 ∷ []
   pub mask-17 : mask 3 coefficients maskRows 0 ≡ 0x17
@@ -103,7 +105,8 @@ pub record Worked : Type 0 where
   pub changed : accepts z vector combined (bytes (plus 0xba 0x01) 0x4c 0x02 0x0c 0x06) ≡ false
   pub changed-both : accepts z vector combined (bytes (plus 0xba 0x01) (plus 0x4c 0x83) 0x02 0x0c 0x06) ≡ true
   -- "Challenge to box 2, place 0, coefficient 01: 14 20 04"
-  pub message : challengeBytes challenge ≡ 0x14 ∷ 0x20 ∷ 0x04 ∷ []
+  pub asked : outcomeNumber (challengeAnswer challenge (0 ∷ 0 ∷ 0 ∷ [])) ≡ 0
+  pub message : challengeOut challenge (0 ∷ 0 ∷ 0 ∷ []) ≡ 0x14 ∷ 0x20 ∷ 0x04 ∷ []
   -- "Places holding b1 and that combination, rows 01 00 and 02 03: Read gives 57 01. Row 01 00 alone: 8" (`ReadIsFixed`: and nothing else)
   pub read-two : ReadAllows two (0 ∷ 0 ∷ []) (Count 2) (0x57 ∷ 0x01 ∷ [])
   pub read-one : ReadAllows one (0 ∷ 0 ∷ []) (Refused Unreadable) (0 ∷ 0 ∷ [])

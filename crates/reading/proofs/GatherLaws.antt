@@ -8,7 +8,7 @@ use native.Mathlib.Omega.{arith}
 use lib.Bits.{xor-zero-r}
 use Rattle.lists.specs.Lists.{pick}
 use Rattle.field.specs.Field.{plus, sum, times}
-use Rattle.field.proofs.SumLaws.{sum-more}
+use Rattle.field.proofs.SumLaws.{sum-none, sum-last, sum-more}
 use Rattle.field.proofs.TimesLaws.{times-zero}
 use Rattle.bits.specs.Fields.{bit}
 use Rattle.tag.specs.declared.Sizes.{Sizes}
@@ -44,10 +44,11 @@ module _ (taken : ℕ → Bool) (places : ℕ → ℕ) (row : ℕ → ℕ → �
   -- the coefficients y of the listed rows are those that c gives to the places
   both : (c y : ℕ → ℕ) (i k : ℕ) → Lists k → ((j : ℕ) → j < k → taken j ≡ true → c j ≡ y (howMany j taken))
       → mixed k c (λ j e. pick (taken j) (row j e) 0) i ≡ mixed (howMany k taken) y (λ t. row (places t)) i
-  unfolding mixed sum howMany
-  both c y i zero listed same = refl
+  unfolding mixed howMany
+  both c y i zero listed same = sym (sum-none _) ∙ sum-none _
   both c y i (suc k) listed same =
-      go (taken k) refl (both c y i k (λ j l. listed j (omega arith)) (λ j l. same j (omega arith)))
+      sum-last k (λ j. times (c j) (pick (taken j) (row j i) 0))
+      ∙ go (taken k) refl (both c y i k (λ j l. listed j (omega arith)) (λ j l. same j (omega arith)))
     where
       go : (t : Bool) → taken k ≡ t
           → sum k (λ j. times (c j) (pick (taken j) (row j i) 0)) ≡ sum (howMany k taken) (λ t. times (y t) (row (places t) i))

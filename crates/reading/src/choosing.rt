@@ -5,21 +5,21 @@ ghost use Prim.Native.Nat.{ℕ, _+_, _<_, _≤_};
 ghost use lib.ListN.{length};
 ghost use Rattle.lists.specs.Lists.{at};
 ghost use Rattle.tag.specs.Sizes.{sizesOutside};
+ghost use Rattle.linear.specs.Rows.{kept};
 ghost use Rattle.linear.specs.Elimination.{cells};
 ghost use Rattle.archive.specs.Layout.{placeCount, archiveLength, sizesOf, badArchive};
 ghost use Rattle.archive.specs.Read.{rowIn};
 ghost use Rattle.reading.specs.Choice.{Choice, Complete};
 use crate::Chosen;
+use linear::Row;
 use tag::Sizes;
 
 // The row of place number k.
-fn row_at(archive: &[u8], z: Sizes, k: usize) -> [u8; 16]
+fn row_at(archive: &[u8], z: Sizes, k: usize) -> Row
     requires { ⌜ (sizesOutside z ≡ false) × (k < placeCount z) × (length (now archive) ≡ archiveLength z) ⌝ }
-    ensures { λ r. ⌜ ((i : ℕ) → i < z .m → at r i ≡ rowIn z (now (archive .entry)) k i) ⌝ }
+    ensures { λ r. ⌜ r ≡ kept (z .m) (rowIn z (now (archive .entry)) k) ⌝ }
 {
-    let mut row = [0u8; 16];
-    lists::store(archive, archive::record_start(z, k) + z.n, &mut row, 0, z.m);
-    row
+    linear::row_from(archive, archive::record_start(z, k) + z.n, z.m)
 }
 
 // The rows of the first `count` of these places.
@@ -29,7 +29,9 @@ pub fn rows_of(archive: &[u8], z: Sizes, places: [u8; 16], count: usize) -> [[u8
 {
     let mut rows = [[0u8; 16]; 16];
     for t in 0..count {
-        rows[t] = row_at(archive, z, lists::widen(places[t]));
+        let row = row_at(archive, z, lists::widen(places[t]));
+        let bytes = row.bytes;
+        rows[t] = bytes;
     }
     rows
 }
@@ -47,8 +49,9 @@ fn consult(archive: &[u8], z: Sizes, c: Chosen, k: usize) -> Chosen
     let mut places = c.places;
     places[count] = (k % 256) as u8;
     let rows = rows_of(archive, z, places, count + 1);
-    let reduced = linear::reduce(rows, count + 1, z.m);
-    if reduced.rank < count + 1 {
+    let mut rank = 0;
+    linear::reduce(rows, count + 1, z.m, &mut rank);
+    if rank < count + 1 {
         return Chosen {
             count,
             consulted,

@@ -30,11 +30,11 @@ fn read_file(archive: &[u8], file: &mut [u8]) -> Counted
     let c = choose(archive, z);
     let places = c.places;
     let rows = rows_of(archive, z, places, c.count);
-    let reduced = linear::reduce(rows, c.count, z.m);
-    if reduced.rank < z.m {
+    let mut rank = 0;
+    let combinations = linear::reduce(rows, c.count, z.m, &mut rank);
+    if rank < z.m {
         return Counted::Refused(Refusal::Unreadable);
     }
-    let combinations = reduced.combinations;
     solve(archive, z, places, combinations, file);
     Counted::Count(c.consulted)
 }

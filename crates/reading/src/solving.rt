@@ -7,10 +7,9 @@ ghost use Rattle.lists.specs.Lists.{at, grid};
 ghost use Rattle.field.specs.Tables.{PowerTable, LogTable};
 ghost use Rattle.tag.specs.Sizes.{sizesOutside};
 ghost use Rattle.tag.specs.Vectors.{mixed, added};
-ghost use Rattle.linear.specs.Elimination.{rowCells};
+ghost use Rattle.linear.specs.Elimination.{cells};
 ghost use Rattle.archive.specs.Layout.{placeCount, archiveLength, byteIn};
 ghost use Rattle.archive.specs.Blocks.{fileLength};
-use linear::Row;
 use tag::Sizes;
 
 // To the n - 2 bytes from `from` on, the data of m places is added, each times its coefficient.
@@ -44,17 +43,22 @@ fn add_places(
 }
 
 // The m blocks without their padding: block i is the places' data combined by combination i.
-pub fn solve(archive: &[u8], z: Sizes, places: [u8; 16], combinations: [Row; 16], file: &mut [u8])
+pub fn solve(
+    archive: &[u8],
+    z: Sizes,
+    places: [u8; 16],
+    combinations: [[u8; 16]; 16],
+    file: &mut [u8],
+)
     requires { ⌜ (sizesOutside z ≡ false) × ((t : ℕ) → t < z .m → at places t < placeCount z) × (length (now archive) ≡ archiveLength z) × (length (now file) ≡ fileLength z) ⌝ }
-    ensures { λ _. ⌜ now (file .exit) ≡ grid (z .m) (z .n - 2) 0 (λ i. mixed (z .m) (rowCells combinations i) (λ t. byteIn z (now (archive .entry)) (at places t))) (now (file .entry)) ⌝ }
+    ensures { λ _. ⌜ now (file .exit) ≡ grid (z .m) (z .n - 2) 0 (λ i. mixed (z .m) (cells combinations i) (λ t. byteIn z (now (archive .entry)) (at places t))) (now (file .entry)) ⌝ }
 {
     let pair = field::tables();
     let powers = pair.powers;
     let logs = pair.logs;
     let len = z.n - 2;
     for i in 0..z.m {
-        let row = combinations[i];
-        let coefficients = row.bytes;
+        let coefficients = combinations[i];
         lists::zero(file, i * len, len);
         add_places(
             &powers,

@@ -5,12 +5,12 @@ use mathlib.Core.List.{List}
 use native.Mathlib.Nat.{mul-le-mul-right}
 use native.Mathlib.Omega.{arith}
 use lib.Bits.{bitXor, xor-zero-l, xor-zero-r}
-use lib.ListN.{length, set}
+use lib.ListN.{length, set, replicate, getD-replicate}
 use lib.Seq.{set-getD}
 use Rattle.lists.specs.Lists.{at, put, grid}
 use Rattle.lists.proofs.PutLaws.{length-put, put-below, put-above, put-at, put-more, put-same, put-again, length-grid, grid-more}
 use Rattle.field.specs.Field.{plus, sum, times}
-use Rattle.field.proofs.SumLaws.{sum-more}
+use Rattle.field.proofs.SumLaws.{sum-none, sum-more}
 use Rattle.field.proofs.XorLaws.{xor-assoc}
 use Rattle.tag.specs.Vectors.{mixed, added}
 
@@ -71,6 +71,11 @@ unfolding added
 added-cleared len from v d fits =
     put-same len from _ v _ (λ e l. ap (λ (x : ℕ). plus x (v e)) (put-at len from (λ e. 0) d e l fits) ∙ xor-zero-l (v e)) ∙ put-again len from v _ d fits
 
+pub added-zeros : (len size : ℕ) (v : ℕ → ℕ) → len ≤ size → added len 0 v (replicate size 0) ≡ put len 0 v (replicate size 0)
+unfolding added
+added-zeros len size v fits =
+    put-same len 0 _ v _ (λ e l. ap (λ (x : ℕ). plus x (v e)) (getD-replicate size (0 + e) 0 0 (omega arith)) ∙ xor-zero-l (v e))
+
 -- n rows are made: one more, of zeros, and a vector added to it
 pub row-made : (n m from : ℕ) (f : ℕ → ℕ → ℕ) (v : ℕ → ℕ) (d : List ℕ) {s z w : List ℕ} {place : ℕ} → from + (n + 1) * m ≤ length d → s ≡ grid n m from f d
     → place ≡ from + n * m → z ≡ put m place (λ e. 0) s → w ≡ added m place v z → ((e : ℕ) → e < m → v e ≡ f n e) → w ≡ grid (n + 1) m from f d
@@ -82,8 +87,8 @@ row-made n m from f v d {s} {place = place} fits made starts cleared combined sa
 
 module _ (len from : ℕ) (c : ℕ → ℕ) (v : ℕ → ℕ → ℕ) (d : List ℕ) where
   pub mixed-none : d ≡ added len from (mixed 0 c v) d
-  unfolding mixed sum
-  mixed-none = added-zero len from (mixed 0 c v) d (λ e h. refl)
+  unfolding mixed
+  mixed-none = added-zero len from (mixed 0 c v) d (λ e h. sym (sum-none _))
 
   -- the first i vectors have been added: one more
   pub mixed-more : (i : ℕ) (w : ℕ → ℕ) {s t : List ℕ} → from + len ≤ length d → s ≡ added len from (mixed i c v) d → t ≡ added len from w s

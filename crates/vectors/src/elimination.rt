@@ -1,21 +1,35 @@
 // Rows and elimination: document 01's rows 01 00 and 02 03, and rows that do not determine a vector.
-use linear::Row;
-
 // Of the first k rows, m elements each; both are below 17.
 fn rank(label: &[u8], expected: u64, a: [[u8; 16]; 16], k: usize, m: usize) {
-    let r = linear::reduce(a, k % 17, m % 17);
-    cases::number(label, expected, r.rank as u64);
+    let mut r = 0usize;
+    linear::reduce(a, k % 17, m % 17, &mut r);
+    cases::number(label, expected, r as u64);
 }
 
 // The first two bytes of the first two combinations.
 fn combinations(a: [[u8; 16]; 16]) -> [u8; 4] {
-    let r = linear::reduce(a, 2, 2);
-    let c = r.combinations;
-    let first = c[0];
-    let second = c[1];
-    let x = first.bytes;
-    let y = second.bytes;
-    [x[0], x[1], y[0], y[1]]
+    let mut r = 0usize;
+    let c = linear::reduce(a, 2, 2, &mut r);
+    [c[0][0], c[0][1], c[1][0], c[1][1]]
+}
+
+// A row of two elements is kept as sixteen bytes; its product reads the two.
+fn kept() {
+    let row = linear::row_from(&[0x01, 0x02, 0x03, 0x04], 1, 2);
+    let bytes = row.bytes;
+    cases::bytes(
+        b"Row 02 03 as it is kept",
+        &[2, 3, 0, 0, 0, 0, 0, 0, 0, 0, 0, 0, 0, 0, 0, 0],
+        &bytes,
+    );
+    let t = field::tables();
+    let powers = t.powers;
+    let logs = t.logs;
+    cases::number(
+        b"Row 02 03 times 02 03",
+        1,
+        linear::dot(&powers, &logs, row, &[0x02, 0x03, 0x04], 2) as u64,
+    );
 }
 
 pub fn run() {
@@ -36,6 +50,5 @@ pub fn run() {
     a[2][1] = 3;
     rank(b"Rank of those and 03 03", 2, a, 3, 2);
     rank(b"Rank of those and 03 03, m=3", 2, a, 3, 3);
-    let v = Row { bytes: a[1] };
-    cases::number(b"Row 02 03 times itself", 1, linear::dot(v, v, 2) as u64);
+    kept();
 }

@@ -1,4 +1,5 @@
 use Rattle.field.proofs.TimesLaws.{times-comm, times-assoc, times-xor-right, one-times, zero-times, times-lt}
+use Rattle.field.proofs.SumLaws.{sum-none, sum-last}
 use Rattle.field.proofs.InverseLaws.{times-inverse, inverse-only, times-none}
 use Rattle.field.proofs.field_laws.Statement.{statement}
 use Rattle.field.proofs.field_laws.Tie as tie
@@ -15,6 +16,8 @@ returns c =
       inverse = times-inverse;
       only-inverse = inverse-only;
       none = times-none;
+      empty-sum = sum-none;
+      longer-sum = sum-last;
     }
 
 pub field-laws-spec : {M : Type 1} → statement M

@@ -4,7 +4,7 @@ use Prim.Native.Nat.{ℕ}
 use mathlib.Core.Path.{sym, _∙_}
 use native.Mathlib.Omega.{arith}
 use Rattle.tag.proofs.SizeLaws.{ranged}
-use Rattle.linear.specs.Elimination.{cells, rowCells}
+use Rattle.linear.specs.Elimination.{cells}
 use Rattle.archive.specs.Layout.{markAt}
 use Rattle.archive.proofs.InventoryLaws.{howMany-most}
 use Rattle.reading.proofs.RowLaws.{place-low}
@@ -42,14 +42,14 @@ rows-of-requires c κs =
 
 reduce-requires : tie.Need-reduce-requires
 reduce-requires c κs =
-    let b = c .before .before .before .before .before .before in
+    let b = c .before .before .before .before .before .before .before in
     (omega (arith, ranged (b .args .z) (b .pre .0) .m-high, b .pre .3), ranged (b .args .z) (b .pre .0) .m-high)
 
 returns-2 : tie.Need-returns-2
 returns-2 c =
-    let r = c .before .before in
-    let rows = r .before .rows-of in
-    let filled = r .before .before .before .before in
+    let r = c .before in
+    let rows = r .before .before .rows-of in
+    let filled = r .before .before .before .before .before in
     let m = filled .before in
     let b = m .before .before in
     let a = b .args in
@@ -57,14 +57,14 @@ returns-2 c =
     let size = length-unmapped ℕ (a .c .places) 16 (b .good .1 .1 .0 .1 .1 .1 .1 .0 .1 .0 .1) in
     let mark = sym (m .marked .ensures) ∙ not-false (m .marked .result) (filled .if1 .left) in
     consult-drop (a .z) (a .archive .now) (a .k) (a .c) (p .0) (p .1) (p .3) (p .4) size
-    (cells (rows .result)) (rowCells (r .reduce .result .combinations)) (r .reduce .result .rank) (rows .ensures) (r .reduce .ensures) mark
+    (cells (rows .result)) (cells (r .reduce .result)) _ (rows .ensures) (r .reduce .ensures) mark
     (λ i. m .before .shared-slice-known .given i .fits) (omega arith)
 
 returns-3 : tie.Need-returns-3
 returns-3 c =
-    let r = c .before .before in
-    let rows = r .before .rows-of in
-    let filled = r .before .before .before .before in
+    let r = c .before in
+    let rows = r .before .before .rows-of in
+    let filled = r .before .before .before .before .before in
     let m = filled .before in
     let b = m .before .before in
     let a = b .args in
@@ -72,7 +72,7 @@ returns-3 c =
     let size = length-unmapped ℕ (a .c .places) 16 (b .good .1 .1 .0 .1 .1 .1 .1 .0 .1 .0 .1) in
     let mark = sym (m .marked .ensures) ∙ not-false (m .marked .result) (filled .if1 .left) in
     consult-take (a .z) (a .archive .now) (a .k) (a .c) (p .0) (p .1) (p .3) (p .4) size
-    (cells (rows .result)) (rowCells (r .reduce .result .combinations)) (r .reduce .result .rank) (rows .ensures) (r .reduce .ensures) mark (omega arith)
+    (cells (rows .result)) (cells (r .reduce .result)) _ (rows .ensures) (r .reduce .ensures) mark (omega arith)
 
 pub consult-spec : {M : Type 1} → statement M
 consult-spec =

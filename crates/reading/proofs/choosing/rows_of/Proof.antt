@@ -8,6 +8,7 @@ use lib.ListN.{length, length-set}
 use Rattle.lists.specs.Lists.{at}
 use Rattle.tag.proofs.SizeLaws.{ranged}
 use Rattle.linear.specs.Elimination.{cells}
+use Rattle.linear.proofs.KeptLaws.{kept-at}
 use Rattle.linear.proofs.ArrayLaws.{stored}
 use Rattle.archive.specs.Read.{rowIn}
 use Rattle.reading.proofs.choosing.rows_of.Statement.{statement}
@@ -32,21 +33,23 @@ row-at-requires c κs =
     (b .pre .0, omega (arith, b .pre .2 (c .before .before .loop .t) (c .before .loop-test .taken), c .widen .ensures .0), b .pre .3)
 
 mul-rows : tie.Need-mul-rows Inv-loop μ-loop
-mul-rows c = omega (arith, array-read-widen (c .before .before))
+mul-rows c = omega (arith, array-read-widen (c .before .before .before))
 
 array-set-from-rows : tie.Need-array-set-from-rows Inv-loop μ-loop
-array-set-from-rows c = array-read-widen (c .before .before)
+array-set-from-rows c = array-read-widen (c .before .before .before)
 
 loop-again : tie.Need-loop-again Inv-loop μ-loop
 loop-again c =
-    let b = c .before .before .before .before .before in
-    let l = c .before .before .before .loop in
+    let b = c .before .before .before .before .before .before in
+    let l = c .before .before .before .before .loop in
     let z = b .args .z in
     let row : ℕ → List ℕ → Type 0 = λ q x. (i : ℕ) → i < z .m → at x i ≡ rowIn z (b .args .archive .now) (at (b .args .t3) q) i in (
       omega arith,
-      length-set (l .rows) (l .t) (c .row-at .result) ∙ l .inv .1,
-      stored [] (l .rows) (l .t) (c .row-at .result) row (omega (arith, array-set-from-rows c, l .inv .1)) (l .inv .2)
-          (λ i h. c .row-at .ensures i h ∙ ap (λ (k : ℕ). rowIn z (b .args .archive .now) k i) (c .before .widen .ensures .0)),
+      length-set (l .rows) (l .t) _ ∙ l .inv .1,
+      stored [] (l .rows) (l .t) _ row (omega (arith, array-set-from-rows c, l .inv .1)) (l .inv .2)
+          (λ i h.
+          kept-at (z .m) _ (ranged z (b .pre .0) .m-high) (c .before .row-at .ensures) i h
+          ∙ ap (λ (k : ℕ). rowIn z (b .args .archive .now) k i) (c .before .before .widen .ensures .0)),
     )
 
 returns : tie.Need-returns Inv-loop μ-loop

@@ -8,7 +8,7 @@ use Rattle.lists.proofs.PutLaws.{grid-none}
 use Rattle.tag.specs.Vectors.{mixed}
 use Rattle.tag.proofs.SizeLaws.{ranged}
 use Rattle.tag.proofs.AddedLaws.{row-made}
-use Rattle.linear.specs.Elimination.{rowCells}
+use Rattle.linear.specs.Elimination.{cells}
 use Rattle.archive.specs.Layout.{byteIn}
 use Rattle.reading.proofs.SolvingLaws.{row-fits, row-low}
 use Rattle.reading.proofs.solving.solve.Statement.{statement}
@@ -17,7 +17,7 @@ use Rattle.reading.proofs.solving.solve.Tie as tie
 abbrev Inv-loop : tie.InvT-loop
 Inv-loop archive z places file₀ combinations powers logs len i₀ i-end file i =
     (i ≤ i-end) × (length file ≡ length file₀)
-    × (file ≡ grid i len 0 (λ j. mixed (z .m) (rowCells combinations j) (λ t. byteIn z archive (at places t))) file₀)
+    × (file ≡ grid i len 0 (λ j. mixed (z .m) (cells combinations j) (λ t. byteIn z archive (at places t))) file₀)
 
 abbrev μ-loop : tie.MeasureT-loop
 μ-loop archive z places file₀ combinations powers logs len i₀ i-end file i = i-end - i
@@ -28,27 +28,27 @@ sub-len c = omega (arith, ranged _ (c .before .before .before .before .before .b
 loop-holds : tie.Need-loop-holds Inv-loop μ-loop
 loop-holds c = (omega arith, refl, grid-none _ _ _ _)
 
-array-copy-out-row : tie.Need-array-copy-out-row Inv-loop μ-loop
-array-copy-out-row c = omega (arith, ranged _ (c .before .before .before .before .before .before .before .before .pre .0))
+array-copy-out-coefficients : tie.Need-array-copy-out-coefficients Inv-loop μ-loop
+array-copy-out-coefficients c = omega (arith, ranged _ (c .before .before .before .before .before .before .before .before .pre .0))
 
-mul-row : tie.Need-mul-row Inv-loop μ-loop
-mul-row c = omega (arith, array-copy-out-row c)
+mul-coefficients : tie.Need-mul-coefficients Inv-loop μ-loop
+mul-coefficients c = omega (arith, array-copy-out-coefficients c)
 
 zero-requires : tie.Need-zero-requires Inv-loop μ-loop
 zero-requires c κs =
-    let l = c .before .before .before .before in
+    let l = c .before .before .before in
     let b = l .before .before .before .before .before .before .before in
-    omega (arith, row-fits (l .loop .i) (b .args .z .m) (b .args .z .n - 2) (c .before .before .before .loop-test .taken), b .pre .3)
+    omega (arith, row-fits (l .loop .i) (b .args .z .m) (b .args .z .n - 2) (c .before .before .loop-test .taken), b .pre .3)
 
 mul-zero : tie.Need-mul-zero Inv-loop μ-loop
 mul-zero c =
-    let l = c .before .before .before .before in
+    let l = c .before .before .before in
     let b = l .before .before .before .before .before .before .before in
-    omega (arith, row-low (b .args .z) (b .pre .0) (l .loop .i) (c .before .before .before .loop-test .taken))
+    omega (arith, row-low (b .args .z) (b .pre .0) (l .loop .i) (c .before .before .loop-test .taken))
 
 add-places-requires : tie.Need-add-places-requires Inv-loop μ-loop
 add-places-requires c κs =
-    let l = c .before .before .before .before .before .before .before .before .before .before in
+    let l = c .before .before .before .before .before .before .before .before .before in
     let tables = l .before .before .before .before .tables .ensures in
     let b = l .before .before .before .before .before .before .before in (
       tables .0,
@@ -58,7 +58,7 @@ add-places-requires c κs =
       b .pre .2,
       omega (
         arith,
-        row-fits (l .loop .i) (b .args .z .m) (b .args .z .n - 2) (c .before .before .before .before .before .before .before .before .before .loop-test .taken),
+        row-fits (l .loop .i) (b .args .z .m) (b .args .z .n - 2) (c .before .before .before .before .before .before .before .before .loop-test .taken),
         b .pre .3,
         c .before .before .before .before .file .given,
       ),
@@ -66,16 +66,16 @@ add-places-requires c κs =
 
 mul-add-places : tie.Need-mul-add-places Inv-loop μ-loop
 mul-add-places c =
-    let l = c .before .before .before .before .before .before .before .before .before .before in
+    let l = c .before .before .before .before .before .before .before .before .before in
     let b = l .before .before .before .before .before .before .before in
-    omega (arith, row-low (b .args .z) (b .pre .0) (l .loop .i) (c .before .before .before .before .before .before .before .before .before .loop-test .taken))
+    omega (arith, row-low (b .args .z) (b .pre .0) (l .loop .i) (c .before .before .before .before .before .before .before .before .loop-test .taken))
 
 loop-again : tie.Need-loop-again Inv-loop μ-loop
 loop-again c =
-    let l = c .before .before .before .before .before .before .before .before .before .before .before .before .before in
+    let l = c .before .before .before .before .before .before .before .before .before .before .before .before in
     let b = l .before .before .before .before .before .before .before in
     let len = b .args .z .n - 2 in
-    let low : l .loop .i < b .args .z .m = c .before .before .before .before .before .before .before .before .before .before .before .before .loop-test .taken in (
+    let low : l .loop .i < b .args .z .m = c .before .before .before .before .before .before .before .before .before .before .before .loop-test .taken in (
       omega (arith, low),
       search needs,
       row-made (l .loop .i) len 0 _ _ (b .args .file .now)
@@ -99,8 +99,8 @@ solve-spec =
     (λ c κs. search needs)
     sub-len
     loop-holds
-    mul-row
-    array-copy-out-row
+    mul-coefficients
+    array-copy-out-coefficients
     mul-zero
     zero-requires
     mul-add-places

@@ -1,0 +1,44 @@
+-- Rows after Repair, on any archive that is not bad. Assumes nothing.
+use Prim.Native.Nat.{ℕ, _+_, _*_, _<_, _≤_}
+use mathlib.Core.Path.{_≡_, sym, ap, _∙_}
+use mathlib.Core.Bool.{Bool}
+use mathlib.Core.List.{List}
+use native.Mathlib.Nat.{mul-le-mul-right}
+use native.Mathlib.Omega.{arith}
+use lib.ListN.{length}
+use borrow.Author.Tests.{leb-false}
+use Rattle.lists.specs.Lists.{at, over, grid}
+use Rattle.lists.proofs.AnyLaws.{any-first}
+use Rattle.lists.proofs.PutLaws.{length-put, grid-at}
+use Rattle.answer.proofs.RefusalLaws.{accepted, after-done}
+use Rattle.tag.specs.declared.Sizes.{Sizes}
+use Rattle.tag.specs.Vectors.{mixed}
+use Rattle.archive.specs.Layout.{recordLength, placeCount, archiveLength, placeNumber, recordStart, sizesOf, markAt, byteIn, withMarks, stored}
+use Rattle.archive.specs.Calls.{repair, repairByte, targetByte, answerFor, archiveAnswer, effectFor, archiveAfter}
+use Rattle.archive.specs.Repaired.{RepairedRows}
+use Rattle.archive.proofs.GoodLaws.{good-length}
+
+pub length-marks : (mark : ℕ → Bool) (s : List ℕ) → length (withMarks mark s) ≡ length s
+unfolding withMarks
+length-marks mark s = length-put 6 12 _ s
+
+-- a byte of a record that was stored
+stored-byte : (z : Sizes) (v : Bool) (node j p : ℕ) (rec : ℕ → ℕ → ℕ) (s : List ℕ) → length s ≡ archiveLength z → node < z .nodes → j < z .places
+    → p < recordLength z → byteIn z (stored z v (placeNumber z node 0) (z .places) rec s) (placeNumber z node j) p ≡ rec j p
+unfolding byteIn stored
+stored-byte z v node j p rec s long h hj hp =
+    let marked : List ℕ = withMarks (over (placeNumber z node 0) (z .places) (λ i. v) (markAt s)) s in
+    let first : recordStart z (placeNumber z node j) + p ≡ recordStart z (placeNumber z node 0) + j * recordLength z + p = omega arith in
+    let whole : (node * z .places + z .places) * recordLength z ≤ placeCount z * recordLength z =
+    mul-le-mul-right (recordLength z) (omega (arith, mul-le-mul-right (z .places) h)) in
+    ap (at (grid (z .places) (recordLength z) (recordStart z (placeNumber z node 0)) rec marked)) first
+    ∙ grid-at (z .places) (recordLength z) (recordStart z (placeNumber z node 0)) rec marked j p hj hp (omega (arith, length-marks (over (placeNumber z node 0) (z .places) (λ i. v) (markAt s)) s))
+
+pub repaired-rows : RepairedRows
+unfolding archiveAnswer answerFor archiveAfter effectFor targetByte repairByte mixed byteIn
+repaired-rows s target helpers q gammas thetas scratch done k i h hi =
+    let z : Sizes = sizesOf s in
+    let a = accepted _ _ _ done in
+    let there = accepted _ _ _ (accepted _ _ _ (accepted _ _ _ (a .1) .1) .1) .0 in
+    ap (λ (t : List ℕ). byteIn z t (placeNumber z target k) (z .n + i)) (after-done _ _ done)
+    ∙ stored-byte z _ target k (z .n + i) _ s (good-length s (a .0)) (leb-false _ _ (any-first _ _ there)) h (omega arith)

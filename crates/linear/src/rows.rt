@@ -1,0 +1,32 @@
+// Rows, as they are kept.
+ghost use mathlib.Core.Path.{_≡_};
+ghost use Prim.Native.Nat.{_+_, _≤_};
+ghost use lib.ListN.{length};
+ghost use Rattle.lists.specs.Lists.{at};
+ghost use Rattle.field.specs.Tables.{PowerTable, LogTable};
+ghost use Rattle.tag.specs.Vectors.{product};
+ghost use Rattle.linear.specs.Rows.{kept};
+
+// A row of m elements, kept as sixteen bytes, those past m zero.
+pub struct Row {
+    pub bytes: [u8; 16],
+}
+
+// The row whose m elements stand from `from` on.
+pub fn row_from(s: &[u8], from: usize, m: usize) -> Row
+    requires { ⌜ (m ≤ 16) × (from + m ≤ length (now s)) ⌝ }
+    ensures { λ r. ⌜ r ≡ kept m (λ i. at (now (s .entry)) (from + i)) ⌝ }
+{
+    let mut bytes = [0u8; 16];
+    lists::store(s, from, &mut bytes, 0, m);
+    Row { bytes }
+}
+
+// The product of a row's m elements and the first m bytes of a vector.
+pub fn dot(powers: &[u8; 510], logs: &[u8; 256], row: Row, vector: &[u8], m: usize) -> u8
+    requires { ⌜ PowerTable (now powers) × LogTable (now logs) × (m ≤ 16) × (m ≤ length (now vector)) ⌝ }
+    ensures { λ r. ⌜ r ≡ product m (at (row .bytes)) (at (now (vector .entry))) ⌝ }
+{
+    let bytes = row.bytes;
+    tag::product_of(powers, logs, &bytes, vector, m)
+}
