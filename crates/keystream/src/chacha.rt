@@ -3,7 +3,7 @@ ghost use mathlib.Core.Path.{_≡_};
 ghost use Prim.Native.Nat.{_+_, _*_, _<_, _≤_};
 ghost use lib.ListN.{length, getD};
 ghost use Rattle.lists.specs.Lists.{at, put};
-ghost use Rattle.keystream.specs.ChaCha.{rotl, quarterOf, quarterBy, quartersTo, rounds, blockWords, wordAt, start, byteOf, serialised};
+ghost use Rattle.keystream.specs.ChaCha.{rotl, quarterOf, quarterBy, quadruples, quartersTo, rounds, blockWords, wordAt, start, byteOf, serialised};
 ghost use Rattle.keystream.specs.Draws.{pairsOf, byteAt};
 ghost use Rattle.keystream.specs.Block.{blockAnswer, blockOut};
 use answer::Outcome;
@@ -75,26 +75,26 @@ fn quarter_by(s: [u32; 16], q: [usize; 4]) -> [u32; 16]
     t
 }
 
-// Eight calls and no loop: a loop would rebuild the table on the stack at each turn.
-fn double_round(s: [u32; 16]) -> [u32; 16]
+// A quarter round for each quadruple of the table, which is lent: a constant named in the loop would be built anew at each turn.
+fn double_round(s: [u32; 16], quarters: &[[usize; 4]; 8]) -> [u32; 16]
+    requires { ⌜ now quarters ≡ quadruples ⌝ }
     ensures { λ r. ⌜ r ≡ quartersTo 8 s ⌝ }
 {
-    let a = quarter_by(s, QUARTERS[0]);
-    let b = quarter_by(a, QUARTERS[1]);
-    let c = quarter_by(b, QUARTERS[2]);
-    let d = quarter_by(c, QUARTERS[3]);
-    let e = quarter_by(d, QUARTERS[4]);
-    let f = quarter_by(e, QUARTERS[5]);
-    let g = quarter_by(f, QUARTERS[6]);
-    quarter_by(g, QUARTERS[7])
+    let mut t = s;
+    for i in 0..8 {
+        let u = quarter_by(t, quarters[i]);
+        t = u;
+    }
+    t
 }
 
 fn ten_rounds(s: [u32; 16]) -> [u32; 16]
     ensures { λ r. ⌜ r ≡ rounds 10 s ⌝ }
 {
+    let quarters = QUARTERS;
     let mut t = s;
     for _ in 0usize..10 {
-        let u = double_round(t);
+        let u = double_round(t, &quarters);
         t = u;
     }
     t

@@ -1,47 +1,44 @@
-use Rattle.keystream.specs.ChaCha.{quartersTo, quadruples}
+use Prim.Native.Nat.{_≤_, _-_}
+use mathlib.Core.Path.{_≡_}
+use native.Mathlib.Omega.{arith}
+use Rattle.keystream.specs.ChaCha.{quartersTo}
+use Rattle.keystream.proofs.ChaChaLaws.{positions-low, quarter-more}
 use borrow.Author.Needs.{needs}
 use Rattle.keystream.proofs.chacha.double_round.Statement.{statement}
 use Rattle.keystream.proofs.chacha.double_round.Tie as tie
 
-returns : tie.Need-returns
-unfolding quartersTo quadruples
-returns c =
-    let c7 = c .before .before in
-    let c6 = c7 .before .before in
-    let c5 = c6 .before .before in
-    let c4 = c5 .before .before in
-    let c3 = c4 .before .before in
-    let c2 = c3 .before .before in
-    let c1 = c2 .before .before in
-    rw (
-      c .quarter-by8 .ensures,
-      c7 .quarter-by7 .ensures,
-      c6 .quarter-by6 .ensures,
-      c5 .quarter-by5 .ensures,
-      c4 .quarter-by4 .ensures,
-      c3 .quarter-by3 .ensures,
-      c2 .quarter-by2 .ensures,
-      c1 .quarter-by .ensures,
-    )
+abbrev Inv-loop : tie.InvT-loop
+Inv-loop quarters t₀ i₀ t i = (i ≤ 8) × (t ≡ quartersTo i t₀)
+
+abbrev μ-loop : tie.MeasureT-loop
+μ-loop quarters t₀ i₀ t i = 8 - i
+
+loop-holds : tie.Need-loop-holds Inv-loop μ-loop
+unfolding quartersTo
+loop-holds c = search needs
+
+quarter-by-requires : tie.Need-quarter-by-requires Inv-loop μ-loop
+quarter-by-requires c κs = positions-low _ (c .before .before .before .pre) (c .before .loop-test .taken)
+
+loop-again : tie.Need-loop-again Inv-loop μ-loop
+loop-again c =
+    let l = c .before .before .before in
+    (omega arith, quarter-more _ _ (l .before .pre) (l .loop .inv .1) (c .quarter-by .ensures))
+
+returns : tie.Need-returns Inv-loop μ-loop
+returns c = let e : c .before .loop .i ≡ 8 = omega arith in cc
 
 pub double-round-spec : {M : Type 1} → statement M
 double-round-spec =
     tie.close
     (tie.spec
+    Inv-loop
+    μ-loop
+    loop-holds
     (λ c. search needs)
-    (λ c κs. search needs)
     (λ c. search needs)
-    (λ c κs. search needs)
+    quarter-by-requires
     (λ c. search needs)
-    (λ c κs. search needs)
     (λ c. search needs)
-    (λ c κs. search needs)
-    (λ c. search needs)
-    (λ c κs. search needs)
-    (λ c. search needs)
-    (λ c κs. search needs)
-    (λ c. search needs)
-    (λ c κs. search needs)
-    (λ c. search needs)
-    (λ c κs. search needs)
+    loop-again
     returns)
