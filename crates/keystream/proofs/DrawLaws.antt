@@ -1,6 +1,6 @@
 -- A stream gives its bytes in order. Assumes nothing.
 use Prim.Native.Nat.{ℕ, zero, suc, _+_, _*_, _/_, _%_, _^_, _<_, _≤_}
-use mathlib.Core.Path.{_≡_, ap, sym, _∙_}
+use mathlib.Core.Path.{_≡_, refl, ap, sym, _∙_}
 use mathlib.Core.List.{List}
 use mathlib.Core.Logic.{⊎-elim}
 use native.Mathlib.Nat.{eq-or-lt-of-le, eq-zero-or-pos, mod-lt, div-one, div-div-eq-div-mul}
@@ -83,6 +83,17 @@ first : (key nonce : List ℕ) (c : ℕ) → begun (start key c nonce) ≡ mid (
 unfolding begun start
 first key nonce c = simp div-one
 
+-- no draw leaves a stream as it is
+pub after-none : (s : Stream) → s ≡ after 0 s
+unfolding after
+after-none s = refl
+
+-- for a caller: what `next` ensures, of a stream after i draws
+pub after-more : (i : ℕ) (s : Stream) {t : Stream} {d : Drawn} → t ≡ after i s → d ≡ drawn t
+    → (d .byte ≡ drawn (after i s) .byte) × (d .stream ≡ after (i + 1) s)
+unfolding after
+after-more i s p q = (ap (λ (x : Drawn). x .byte) (q ∙ ap drawn p), rw add-one (ap (λ (x : Drawn). x .stream) (q ∙ ap drawn p)))
+
 module _ (key nonce : List ℕ) where
   fresh-is : fresh key nonce ≡ streamAt key nonce 0
   unfolding fresh streamAt
@@ -118,10 +129,9 @@ module _ (key nonce : List ℕ) where
   pub draws-in-order : (i : ℕ) → drawn (after i (fresh key nonce)) .byte ≡ byteAt key nonce i
   draws-in-order i = ap (λ (s : Stream). drawn s .byte) (after-is i) ∙ byte-is i
 
-  -- for a caller: what `next` ensures, of a stream after i draws
+  -- the same of a new stream, whose bytes are known
   pub draw-at : (i : ℕ) {s : Stream} {d : Drawn} → s ≡ after i (fresh key nonce) → d ≡ drawn s → (d .byte ≡ byteAt key nonce i) × (d .stream ≡ after (i + 1) (fresh key nonce))
-  unfolding after
-  draw-at i {s} {d} p q = (cc (draws-in-order i), rw add-one (cc))
+  draw-at i p q = let d = after-more i _ p q in (d .0 ∙ draws-in-order i, d .1)
 
 -- the stream that `next` builds at place i: of a new block, of the same block with the next number, and with the same number
 abbrev placed : ℕ → ℕ → List ℕ → List ℕ → Stream

@@ -54,6 +54,8 @@ after (suc n) s = drawn (after n s) .stream
 
 -- ---- what is promised of it
 
--- the i-th draw from a new stream, counted from 0, gives byte i
-abbrev pub DrawsInOrder : Type 0
-DrawsInOrder = (key nonce : List ℕ) (i : ℕ) → drawn (after i (fresh key nonce)) .byte ≡ byteAt key nonce i
+-- no draw leaves a stream as it is, a draw counts as one more, and the i-th draw from a new stream, counted from 0, gives byte i
+pub record DrawLaws : Type 0 where
+  pub none : (s : Stream) → s ≡ after 0 s
+  pub more : (i : ℕ) (s : Stream) → drawn (after i s) .stream ≡ after (i + 1) s
+  pub in-order : (key nonce : List ℕ) (i : ℕ) → drawn (after i (fresh key nonce)) .byte ≡ byteAt key nonce i

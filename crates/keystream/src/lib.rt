@@ -8,4 +8,4 @@ pub use chacha::fill;
 pub use chacha::quarter_round;
 pub use stream::Drawn;
 pub use stream::Stream;
-pub use stream::draws_in_order;
+pub use stream::draw_laws;

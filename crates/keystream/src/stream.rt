@@ -2,7 +2,7 @@
 ghost use mathlib.Core.Path.{_≡_};
 ghost use Prim.Native.Nat.{_<_};
 ghost use Rattle.lists.specs.Lists.{at};
-ghost use Rattle.keystream.specs.Draws.{fresh, drawn, DrawsInOrder};
+ghost use Rattle.keystream.specs.Draws.{fresh, drawn, DrawLaws};
 use super::chacha::block_pairs;
 use super::chacha::start_state;
 
@@ -83,7 +83,7 @@ impl Stream {
     }
 }
 
-// Carries the law of draws: without its proof the crate is not proved.
-pub fn draws_in_order()
-    ensures { λ _. ⌜ DrawsInOrder ⌝ }
+// Carries the laws of draws: without their proof the crate is not proved.
+pub fn draw_laws()
+    ensures { λ _. ⌜ DrawLaws ⌝ }
 {}

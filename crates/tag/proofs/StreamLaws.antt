@@ -1,8 +1,7 @@
--- The steps of a loop that draws one byte a turn, and the key vector as the bytes of F1's stream. Assumes nothing.
+-- The key vector as the bytes of F1's stream. Assumes nothing.
 use Prim.Native.Nat.{ℕ, _+_, _-_}
-use mathlib.Core.Path.{_≡_, refl, ap, _∙_}
+use mathlib.Core.Path.{_≡_, refl, _∙_}
 use mathlib.Core.List.{List, _∷_}
-use native.Mathlib.Numerals.{add-one}
 use native.Mathlib.Omega.{arith}
 use Rattle.lists.specs.Lists.{tab}
 use Rattle.lists.proofs.TabLaws.{tab-same}
@@ -11,15 +10,6 @@ use Rattle.keystream.specs.declared.stream.Drawn.{Drawn}
 use Rattle.keystream.specs.Draws.{fresh, drawn, after}
 use Rattle.keystream.proofs.DrawLaws.{draws-in-order, draw-at}
 use Rattle.tag.specs.KeyVector.{F1, keyVector}
-
-pub after-none : (s : Stream) → s ≡ after 0 s
-unfolding after
-after-none s = refl
-
-pub after-more : (i : ℕ) (s : Stream) {t : Stream} {d : Drawn} → t ≡ after i s → d ≡ drawn t
-    → (d .byte ≡ drawn (after i s) .byte) × (d .stream ≡ after (i + 1) s)
-unfolding after
-after-more i s p q = (ap (λ (x : Drawn). x .byte) (q ∙ ap drawn p), rw add-one (ap (λ (x : Drawn). x .stream) (q ∙ ap drawn p)))
 
 -- the bytes drawn from F1's stream are the key vector
 pub vector-drawn : (n : ℕ) (key id : List ℕ) → tab n (λ i. drawn (after i (fresh key (1 ∷ 0 ∷ 0 ∷ 0 ∷ id))) .byte) ≡ tab n (keyVector key id)

@@ -1,11 +1,11 @@
 use borrow.Author.Needs.{needs}
 use Prim.Native.Nat.{_≤_, _-_}
-use mathlib.Core.Path.{_≡_}
+use mathlib.Core.Path.{_≡_, _∙_}
 use native.Mathlib.Omega.{arith}
 use Rattle.field.specs.Field.{sum}
 use Rattle.field.proofs.SumLaws.{sum-none, sum-more, sum-all}
 use Rattle.keystream.specs.Draws.{byteAt, fresh, after}
-use Rattle.keystream.proofs.DrawLaws.{draw-at}
+use Rattle.keystream.proofs.DrawLaws.{after-none, draw-at}
 use Rattle.loops.proofs.loops_draw.Statement.{statement}
 use Rattle.loops.proofs.loops_draw.Tie as tie
 
@@ -20,8 +20,7 @@ new-requires : tie.Need-new-requires Inv-loop μ-loop
 new-requires c κs = search needs
 
 loop-holds : tie.Need-loop-holds Inv-loop μ-loop
-unfolding after
-loop-holds c = (omega arith, c .new .ensures, sum-none _)
+loop-holds c = (omega arith, c .new .ensures ∙ after-none _, sum-none _)
 
 next-requires : tie.Need-next-requires Inv-loop μ-loop
 next-requires c κs = search needs

@@ -7,8 +7,9 @@ use native.Mathlib.Omega.{arith}
 use Rattle.lists.proofs.AnyLaws.{any-some, any-none}
 use Rattle.answer.proofs.RefusalLaws.{differs-same, differs-other}
 use Rattle.keystream.specs.Draws.{fresh, after}
+use Rattle.keystream.proofs.DrawLaws.{after-none}
 use Rattle.tag.specs.KeyVector.{keyVector}
-use Rattle.tag.proofs.StreamLaws.{after-none, key-drawn}
+use Rattle.tag.proofs.StreamLaws.{key-drawn}
 use Rattle.mask.proofs.any_element.Statement.{statement}
 use Rattle.mask.proofs.any_element.Tie as tie
 

@@ -7,7 +7,7 @@ use Rattle.field.specs.Field.{times}
 use Rattle.field.proofs.SumLaws.{sum-none, sum-more, sum-all}
 use Rattle.keystream.specs.Draws.{drawn, after}
 use Rattle.tag.specs.Vectors.{product}
-use Rattle.tag.proofs.StreamLaws.{after-none, after-more}
+use Rattle.keystream.proofs.DrawLaws.{after-none, after-more}
 use Rattle.tag.proofs.products.product_drawn.Statement.{statement}
 use Rattle.tag.proofs.products.product_drawn.Tie as tie
 
