@@ -83,7 +83,7 @@ first : (key nonce : List ℕ) (c : ℕ) → begun (start key c nonce) ≡ mid (
 unfolding begun start
 first key nonce c = simp div-one
 
--- no draw leaves a stream as it is
+-- zero draws leave a stream as it is
 pub after-none : (s : Stream) → s ≡ after 0 s
 unfolding after
 after-none s = refl

@@ -54,7 +54,7 @@ after (suc n) s = drawn (after n s) .stream
 
 -- ---- what is promised of it
 
--- no draw leaves a stream as it is, a draw counts as one more, and the i-th draw from a new stream, counted from 0, gives byte i
+-- zero draws leave a stream as it is, a draw counts as one more, and the i-th draw from a new stream, counted from 0, gives byte i
 pub record DrawLaws : Type 0 where
   pub none : (s : Stream) → s ≡ after 0 s
   pub more : (i : ℕ) (s : Stream) → drawn (after i s) .stream ≡ after (i + 1) s
