@@ -59,13 +59,15 @@ uint8_t span_repair(uint8_t *archive, size_t archive_len, size_t target, const u
 uint8_t span_challenge(size_t node, const uint8_t *places, size_t places_len, const uint8_t *coefficients, size_t coefficients_len,
                        uint8_t *message, size_t message_len);
 
-/* The response of n+14 bytes to a challenge, masked by a seed of 11 bytes, with Setup's auxiliary elements. Refuses 3, 9, 2, 4, 5. */
+/* The response of n+14 bytes to a challenge, masked by a seed of 11 bytes, with Setup's auxiliary elements. The box draws the seed, afresh
+   for each call: two responses under one seed give stored bytes away. The row at a block's end is in no response. Refuses 3, 9, 2, 4, 5. */
 uint8_t span_prove(const uint8_t *archive, size_t archive_len, const uint8_t *mask_key, size_t mask_key_len, const uint8_t *auxiliary,
                    size_t auxiliary_len, const uint8_t *seed, size_t seed_len, const uint8_t *message, size_t message_len,
                    uint8_t *response, size_t response_len);
 
-/* 0 for accepted, 255 for rejected, else the refusal. The rows are those of the challenged node, places*m bytes, zeros for empty places.
-   Refuses 1, 9, 2, 4, 9 (the response's first byte). */
+/* 0 for accepted, 255 for rejected, else the refusal, which speaks of the call and not of the box. The rows are those of the challenged
+   node, places*m bytes, zeros for empty places; they come from the owner, never from the box. Refuses 1, 9, 2, 4, 9 (the response's first
+   byte). */
 uint8_t span_verdict(const uint8_t *tag_key, size_t tag_key_len, const uint8_t *id, size_t id_len, size_t n, size_t m, size_t places,
                      size_t nodes, const uint8_t *rows, size_t rows_len, const uint8_t *message, size_t message_len,
                      const uint8_t *response, size_t response_len);
@@ -79,7 +81,7 @@ uint8_t span_unmask(size_t n, const uint8_t *id, size_t id_len, const uint8_t *m
 uint8_t span_inventory(const uint8_t *archive, size_t archive_len, uint8_t *list, size_t list_len, uint8_t *count);
 
 /* The file of m(n-2) bytes, solved from the first filled places, by node, then place, whose rows determine it; how many filled places were
-   consulted into *consulted. Refuses 3, 2, 8. */
+   consulted into *consulted. Tags are not examined: of damaged records it gives some file, without a refusal. Refuses 3, 2, 8. */
 uint8_t span_read(const uint8_t *archive, size_t archive_len, uint8_t *file, size_t file_len, uint8_t *consulted);
 
 #endif

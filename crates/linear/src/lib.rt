@@ -43,10 +43,8 @@ fn added_row(powers: &[u8; 510], logs: &[u8; 256], v: [u8; 16], w: [u8; 16], c: 
     ensures { λ r. ⌜ ((j : ℕ) → j < 16 → at r j ≡ plus (at v j) (times c (at w j))) ⌝ }
 {
     let mut out = v;
-    let mut j = 0;
-    'columns: while j < 16 {
+    for j in 0..16 {
         out[j] = v[j] ^ field::product(powers, logs, c, w[j]);
-        j += 1;
     }
     out
 }
@@ -73,10 +71,8 @@ fn unit() -> [[u8; 16]; 16]
     ensures { λ r. ⌜ ((i j : ℕ) → i < 16 → j < 16 → cells r i j ≡ unitAt j i) ⌝ }
 {
     let mut out = [[0u8; 16]; 16];
-    let mut i = 0;
-    'rows: while i < 16 {
+    for i in 0..16 {
         out[i][i] = 1;
-        i += 1;
     }
     out
 }

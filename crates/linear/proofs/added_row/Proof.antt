@@ -9,57 +9,57 @@ use Rattle.linear.proofs.ArrayLaws.{stored}
 use Rattle.linear.proofs.added_row.Statement.{statement}
 use Rattle.linear.proofs.added_row.Tie as tie
 
-abbrev Inv-columns : tie.InvT-columns
-Inv-columns powers logs c v w out₀ j₀ out j = (length out ≡ 16) × (j ≤ 16) × ((q : ℕ) → q < j → at out q ≡ plus (at v q) (times c (at w q)))
+abbrev Inv-loop : tie.InvT-loop
+Inv-loop powers logs c v w out₀ j₀ out j = (length out ≡ 16) × (j ≤ 16) × ((q : ℕ) → q < j → at out q ≡ plus (at v q) (times c (at w q)))
 
-abbrev μ-columns : tie.MeasureT-columns
-μ-columns powers logs c v w out₀ j₀ out j = 16 - j
+abbrev μ-loop : tie.MeasureT-loop
+μ-loop powers logs c v w out₀ j₀ out j = 16 - j
 
-columns-holds : tie.Need-columns-holds Inv-columns μ-columns
-columns-holds c = (search needs, omega arith, λ q l. absurd (omega arith))
+loop-holds : tie.Need-loop-holds Inv-loop μ-loop
+loop-holds c = (search needs, omega arith, λ q l. absurd (omega arith))
 
-array-read-out : tie.Need-array-read-out Inv-columns μ-columns
+array-read-out : tie.Need-array-read-out Inv-loop μ-loop
 array-read-out c = omega arith
 
-array-read-product : tie.Need-array-read-product Inv-columns μ-columns
+array-read-product : tie.Need-array-read-product Inv-loop μ-loop
 array-read-product c = omega arith
 
-product-requires : tie.Need-product-requires Inv-columns μ-columns
+product-requires : tie.Need-product-requires Inv-loop μ-loop
 product-requires c κs = search needs
 
-array-write-out : tie.Need-array-write-out Inv-columns μ-columns
+array-write-out : tie.Need-array-write-out Inv-loop μ-loop
 array-write-out c = omega arith
 
-add-j : tie.Need-add-j Inv-columns μ-columns
+add-j : tie.Need-add-j Inv-loop μ-loop
 add-j c = omega arith
 
-columns-less : tie.Need-columns-less Inv-columns μ-columns
-columns-less c = omega arith
+loop-less : tie.Need-loop-less Inv-loop μ-loop
+loop-less c = omega arith
 
-columns-again : tie.Need-columns-again Inv-columns μ-columns
-columns-again c =
+loop-again : tie.Need-loop-again Inv-loop μ-loop
+loop-again c =
     let s = c .before .before .before .args in
-    let l = c .before .before .columns in (
+    let l = c .before .before .loop in (
       search needs,
       omega arith,
       stored 0 (l .out) (l .j) _ (λ q x. x ≡ plus (at (s .t3) q) (times (s .c) (at (s .t4) q))) (omega arith) (l .inv .2) (ap (plus (at (s .t3) (l .j))) (c .product .ensures)),
     )
 
-returns : tie.Need-returns Inv-columns μ-columns
-returns c = λ j l. c .before .columns .inv .2 j (omega arith)
+returns : tie.Need-returns Inv-loop μ-loop
+returns c = λ j l. c .before .loop .inv .2 j (omega arith)
 
 pub added-row-spec : {M : Type 1} → statement M
 added-row-spec =
     tie.close
     (tie.spec
-    Inv-columns
-    μ-columns
-    columns-holds
+    Inv-loop
+    μ-loop
+    loop-holds
     array-read-out
     array-read-product
     product-requires
     array-write-out
     add-j
-    columns-less
-    columns-again
+    loop-less
+    loop-again
     returns)

@@ -9,33 +9,33 @@ use Rattle.linear.proofs.RowLaws.{units}
 use Rattle.linear.proofs.unit.Statement.{statement}
 use Rattle.linear.proofs.unit.Tie as tie
 
-abbrev Inv-rows : tie.InvT-rows
-Inv-rows out₀ i₀ out i = (length out ≡ 16) × (i ≤ 16) × ((q : ℕ) → q < i → getD out q [] ≡ set (replicate 16 0) q 1) × ((q : ℕ) → i ≤ q → q < 16 → getD out q [] ≡ replicate 16 0)
+abbrev Inv-loop : tie.InvT-loop
+Inv-loop out₀ i₀ out i = (length out ≡ 16) × (i ≤ 16) × ((q : ℕ) → q < i → getD out q [] ≡ set (replicate 16 0) q 1) × ((q : ℕ) → i ≤ q → q < 16 → getD out q [] ≡ replicate 16 0)
 
-abbrev μ-rows : tie.MeasureT-rows
-μ-rows out₀ i₀ out i = 16 - i
+abbrev μ-loop : tie.MeasureT-loop
+μ-loop out₀ i₀ out i = 16 - i
 
-rows-holds : tie.Need-rows-holds Inv-rows μ-rows
-rows-holds c = (refl, omega arith, (λ q l. absurd (omega arith)), λ q l b. getD-replicate 16 q (replicate 16 0) [] b)
+loop-holds : tie.Need-loop-holds Inv-loop μ-loop
+loop-holds c = (refl, omega arith, (λ q l. absurd (omega arith)), λ q l b. getD-replicate 16 q (replicate 16 0) [] b)
 
-mul-out : tie.Need-mul-out Inv-rows μ-rows
+mul-out : tie.Need-mul-out Inv-loop μ-loop
 mul-out c = omega arith
 
-index-1-out : tie.Need-index-1-out Inv-rows μ-rows
+index-1-out : tie.Need-index-1-out Inv-loop μ-loop
 index-1-out c = omega arith
 
-index-2-out : tie.Need-index-2-out Inv-rows μ-rows
+index-2-out : tie.Need-index-2-out Inv-loop μ-loop
 index-2-out c = omega arith
 
-add-i : tie.Need-add-i Inv-rows μ-rows
+add-i : tie.Need-add-i Inv-loop μ-loop
 add-i c = omega arith
 
-rows-less : tie.Need-rows-less Inv-rows μ-rows
-rows-less c = omega arith
+loop-less : tie.Need-loop-less Inv-loop μ-loop
+loop-less c = omega arith
 
-rows-again : tie.Need-rows-again Inv-rows μ-rows
-rows-again c =
-    let l = c .before .rows in (
+loop-again : tie.Need-loop-again Inv-loop μ-loop
+loop-again c =
+    let l = c .before .loop in (
       length-set (l .out) _ _ ∙ l .inv .0,
       omega arith,
       stored [] (l .out) (l .i) _ (λ q x. x ≡ set (replicate 16 0) q 1) (omega arith) (l .inv .2)
@@ -43,20 +43,20 @@ rows-again c =
       λ q b n. stored-kept [] (l .out) (l .i) q _ (omega arith) ∙ l .inv .3 q (omega arith) n,
     )
 
-returns : tie.Need-returns Inv-rows μ-rows
-returns c = λ i j l b. ap (λ (x : List ℕ). at x j) (c .before .rows .inv .2 i (omega arith)) ∙ units i j l b
+returns : tie.Need-returns Inv-loop μ-loop
+returns c = λ i j l b. ap (λ (x : List ℕ). at x j) (c .before .loop .inv .2 i (omega arith)) ∙ units i j l b
 
 pub unit-spec : {M : Type 1} → statement M
 unit-spec =
     tie.close
     (tie.spec
-    Inv-rows
-    μ-rows
-    rows-holds
+    Inv-loop
+    μ-loop
+    loop-holds
     mul-out
     index-1-out
     index-2-out
     add-i
-    rows-less
-    rows-again
+    loop-less
+    loop-again
     returns)
