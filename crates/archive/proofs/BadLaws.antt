@@ -11,8 +11,8 @@ use Rattle.lists.proofs.AnyLaws.{any-here, any-there, any-last, or-false, any-t
 use Rattle.answer.specs.Refusals.{differs}
 use Rattle.answer.proofs.RefusalLaws.{differs-same, differs-other}
 use Rattle.bits.specs.Fields.{fieldAt}
-use Rattle.tag.specs.declared.Sizes.{Sizes}
-use Rattle.tag.specs.Sizes.{sizesOutside}
+use Rattle.sizes.specs.declared.Sizes.{Sizes}
+use Rattle.sizes.specs.Sizes.{sizesOutside}
 use Rattle.archive.specs.Layout.{placeCount, archiveLength, sizesOf, markAt, badFor, badArchive}
 
 -- mark k is set, and belongs to none of the first `count` places; the same, as code tests it

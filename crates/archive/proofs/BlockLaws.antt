@@ -10,8 +10,8 @@ use Rattle.field.specs.Field.{times}
 use Rattle.field.proofs.SumLaws.{sum-one}
 use Rattle.field.proofs.TimesLaws.{times-zero, times-comm, one-times}
 use Rattle.bits.specs.Fields.{bit}
-use Rattle.tag.specs.declared.Sizes.{Sizes}
-use Rattle.tag.specs.Vectors.{mixed}
+use Rattle.sizes.specs.declared.Sizes.{Sizes}
+use Rattle.vector.specs.Vectors.{mixed}
 use Rattle.archive.specs.Blocks.{source, coded}
 
 module _ (z : Sizes) (file padding : List ℕ) where

@@ -8,8 +8,8 @@ use Rattle.answer.specs.declared.Outcome.{Outcome}
 use Rattle.answer.specs.declared.Outcome.the-variants.{Done, Refused}
 use Rattle.answer.specs.declared.Refusal.{Refusal}
 use Rattle.answer.proofs.RefusalLaws.{passed, after-done, after-refused}
-use Rattle.tag.specs.declared.Sizes.{Sizes}
-use Rattle.tag.proofs.SizeLaws.{Ranged}
+use Rattle.sizes.specs.declared.Sizes.{Sizes}
+use Rattle.sizes.proofs.SizeLaws.{Ranged}
 use Rattle.archive.specs.Layout.{archiveLength, sizesOf, idOf, filledIn, badArchive}
 use Rattle.archive.specs.Calls.{Call, answerFor, archiveAnswer, effectFor, archiveAfter}
 use Rattle.archive.proofs.GoodLaws.{good-sizes, good-length}

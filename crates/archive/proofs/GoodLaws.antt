@@ -8,7 +8,7 @@ use lib.ListN.{length, length-take, length-drop}
 use Rattle.lists.proofs.AnyLaws.{any-first, any-rest}
 use Rattle.answer.proofs.RefusalLaws.{same}
 use Rattle.archive.specs.Layout.{archiveLength, sizesOf, idOf, badFor, badArchive}
-use Rattle.tag.proofs.SizeLaws.{Ranged, ranged}
+use Rattle.sizes.proofs.SizeLaws.{Ranged, ranged}
 
 module _ (s : List ℕ) (good : badArchive s ≡ false) where
   pub good-sizes : Ranged (sizesOf s)

@@ -13,7 +13,7 @@ use Rattle.lists.specs.Lists.{pick, at}
 use Rattle.lists.proofs.TabLaws.{order}
 use Rattle.bits.specs.Fields.{bit}
 use Rattle.bits.proofs.NumberLaws.{bit-low}
-use Rattle.tag.specs.declared.Sizes.{Sizes}
+use Rattle.sizes.specs.declared.Sizes.{Sizes}
 use Rattle.archive.specs.Layout.{placeCount}
 use Rattle.archive.specs.Read.{howMany}
 use Rattle.archive.specs.Inventory.{Listed}

@@ -17,9 +17,9 @@ use Rattle.lists.proofs.AnyLaws.{any-none}
 use Rattle.bits.specs.Fields.{_wide_, widths, pack, packed, bitAt, fieldAt}
 use Rattle.bits.proofs.PackLaws.{packed-length, packed-bit, packed-same, pack-length, pack-field}
 use Rattle.bits.proofs.AppendLaws.{bit-front, field-front, bit-behind}
-use Rattle.tag.specs.declared.Sizes.{Sizes}
+use Rattle.sizes.specs.declared.Sizes.{Sizes}
 use Rattle.archive.specs.Layout.{placeCount, recordLength, archiveLength, recordStart, sizeFields, archiveOf, sizesOf, idOf, markAt, byteIn, badFor, badArchive}
-use Rattle.tag.proofs.SizeLaws.{Ranged, not-sizes-outside}
+use Rattle.sizes.proofs.SizeLaws.{Ranged, not-sizes-outside}
 
 pub four : {z z′ : Sizes} → z .n ≡ z′ .n → z .m ≡ z′ .m → z .places ≡ z′ .places → z .nodes ≡ z′ .nodes → z ≡ z′
 four a b c d i = record { n = a i; m = b i; places = c i; nodes = d i }

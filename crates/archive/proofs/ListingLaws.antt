@@ -16,8 +16,8 @@ use borrow.Author.Tests.{lt-ltb, le-ltb, eq-eqb, ne-eqb}
 use Rattle.lists.specs.Lists.{pick, at, tab}
 use Rattle.lists.proofs.TabLaws.{order, length-tab, tab-at}
 use Rattle.bits.specs.Fields.{bit}
-use Rattle.tag.specs.declared.Sizes.{Sizes}
-use Rattle.tag.proofs.SizeLaws.{Ranged}
+use Rattle.sizes.specs.declared.Sizes.{Sizes}
+use Rattle.sizes.proofs.SizeLaws.{Ranged}
 use Rattle.archive.specs.Layout.{placeCount, placeNumber, markAt, filledIn}
 use Rattle.archive.specs.Read.{howMany}
 use Rattle.archive.specs.Inventory.{Listed}

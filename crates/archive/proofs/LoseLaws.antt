@@ -15,9 +15,9 @@ use Rattle.answer.specs.declared.Refusal.{Refusal}
 use Rattle.answer.specs.declared.Refusal.the-variants.{BadArchive, NoSuchPlace}
 use Rattle.answer.specs.Refusals.{Passed}
 use Rattle.answer.proofs.RefusalLaws.{refused, passed, accepted, after-done, after-refused}
-use Rattle.tag.specs.declared.Sizes.{Sizes}
-use Rattle.tag.specs.Sizes.{sizesOutside}
-use Rattle.tag.proofs.SizeLaws.{Ranged, not-sizes-outside}
+use Rattle.sizes.specs.declared.Sizes.{Sizes}
+use Rattle.sizes.specs.Sizes.{sizesOutside}
+use Rattle.sizes.proofs.SizeLaws.{Ranged, not-sizes-outside}
 use Rattle.archive.specs.Layout.{placeCount, recordLength, recordStart, sizesOf, idOf, markAt, badArchive, withMarks, stored}
 use Rattle.archive.specs.Calls.{lose, answerFor, archiveAnswer, effectFor, archiveAfter}
 use Rattle.archive.proofs.SizeLaws.{count-low}

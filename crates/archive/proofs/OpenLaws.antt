@@ -18,8 +18,8 @@ use Rattle.answer.proofs.RefusalLaws.{accepted, same, after-done, after-refused
 use Rattle.bits.specs.Fields.{_wide_, bitsOf, widths, packed, pack, withField}
 use Rattle.bits.proofs.PackLaws.{packed-length, packed-at, packed-same, bits-zero, packed-zero, packed-past}
 use Rattle.bits.proofs.AppendLaws.{holds-none, holds-more}
-use Rattle.tag.specs.declared.Sizes.{Sizes}
-use Rattle.tag.specs.Sizes.{sizesOutside}
+use Rattle.sizes.specs.declared.Sizes.{Sizes}
+use Rattle.sizes.specs.Sizes.{sizesOutside}
 use Rattle.archive.specs.Layout.{archiveLength, recordStart, sizeFields, archiveOf, opened, openAnswer, openOut}
 use Rattle.archive.proofs.SizeLaws.{record-fits}
 use Rattle.archive.proofs.LayoutLaws.{sizes-length, length-archive, archive-front, archive-marks, archive-byte, same-bytes}

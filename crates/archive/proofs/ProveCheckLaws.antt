@@ -12,7 +12,7 @@ use Rattle.answer.specs.declared.Outcome.the-variants.{Done, Refused}
 use Rattle.answer.specs.declared.Refusal.{Refusal}
 use Rattle.answer.specs.Refusals.{differs}
 use Rattle.answer.proofs.RefusalLaws.{accepted, same, after-done, after-refused}
-use Rattle.tag.specs.declared.Sizes.{Sizes}
+use Rattle.sizes.specs.declared.Sizes.{Sizes}
 use Rattle.mask.specs.Response.{responseLength}
 use Rattle.mask.proofs.ResponseLaws.{response-same}
 use Rattle.audit.specs.Challenge.{challengeOf, malformedChallenge}

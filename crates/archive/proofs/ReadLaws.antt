@@ -15,9 +15,9 @@ use Rattle.field.specs.Field.{plus, times}
 use Rattle.field.proofs.XorLaws.{xor-cancel}
 use Rattle.field.proofs.SumLaws.{sum-zero}
 use Rattle.field.proofs.TimesLaws.{times-zero}
-use Rattle.tag.specs.declared.Sizes.{Sizes}
-use Rattle.tag.specs.Vectors.{product}
-use Rattle.tag.proofs.VectorLaws.{mixed-vectors, product-same, product-right, product-zero, product-mixed}
+use Rattle.sizes.specs.declared.Sizes.{Sizes}
+use Rattle.vector.specs.Vectors.{product}
+use Rattle.vector.proofs.VectorLaws.{mixed-vectors, product-same, product-right, product-zero, product-mixed}
 use Rattle.archive.specs.Layout.{placeCount, markAt, byteIn}
 use Rattle.archive.specs.Blocks.{fileLength}
 use Rattle.archive.specs.Read.{Bytes, howMany, rowIn, Blind, Combined, Takes, Solved}

@@ -11,8 +11,8 @@ use Rattle.lists.specs.Lists.{at, over, grid}
 use Rattle.lists.proofs.AnyLaws.{any-first}
 use Rattle.lists.proofs.PutLaws.{length-put, grid-at}
 use Rattle.answer.proofs.RefusalLaws.{accepted, after-done}
-use Rattle.tag.specs.declared.Sizes.{Sizes}
-use Rattle.tag.specs.Vectors.{mixed}
+use Rattle.sizes.specs.declared.Sizes.{Sizes}
+use Rattle.vector.specs.Vectors.{mixed}
 use Rattle.archive.specs.Layout.{recordLength, placeCount, archiveLength, placeNumber, recordStart, sizesOf, markAt, byteIn, withMarks, stored}
 use Rattle.archive.specs.Calls.{repair, repairByte, targetByte, answerFor, archiveAnswer, effectFor, archiveAfter}
 use Rattle.archive.specs.Repaired.{RepairedRows}

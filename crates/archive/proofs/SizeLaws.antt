@@ -2,8 +2,8 @@
 use Prim.Native.Nat.{ℕ, _+_, _/_, _%_, _<_, _≤_}
 use native.Mathlib.Nat.{mul-le-mul, mul-le-mul-right, mod-lt, div-lt-iff-lt-mul}
 use native.Mathlib.Omega.{arith}
-use Rattle.tag.specs.declared.Sizes.{Sizes}
-use Rattle.tag.proofs.SizeLaws.{Ranged}
+use Rattle.sizes.specs.declared.Sizes.{Sizes}
+use Rattle.sizes.proofs.SizeLaws.{Ranged}
 use Rattle.archive.specs.Layout.{placeCount, recordLength, archiveLength, placeNumber, recordStart}
 
 module _ (z : Sizes) (R : Ranged z) where

@@ -13,7 +13,7 @@ use Rattle.lists.proofs.PutLaws.{length-put, put-below, put-above, put-at, leng
 use Rattle.lists.proofs.OverLaws.{over-within, over-below, over-above, over-same}
 use Rattle.bits.specs.Fields.{packed}
 use Rattle.bits.proofs.PackLaws.{packed-same}
-use Rattle.tag.specs.declared.Sizes.{Sizes}
+use Rattle.sizes.specs.declared.Sizes.{Sizes}
 use Rattle.archive.specs.Layout.{placeCount, recordLength, archiveLength, recordStart, archiveOf, markAt, withMarks, stored}
 use Rattle.archive.proofs.LayoutLaws.{length-archive, archive-front, archive-marks, archive-byte, mark-back, same-bytes}
 

@@ -10,8 +10,8 @@ use Rattle.answer.specs.declared.Outcome.the-variants.{Done}
 use Rattle.answer.specs.declared.Refusal.the-variants.{Size, Length, BadArchive, NoSuchPlace, PlaceEmpty, PlaceFilled}
 use Rattle.answer.specs.Refusals.{refuse, afterwards, differs, outside}
 use Rattle.field.specs.Field.{sum, times}
-use Rattle.tag.specs.declared.Sizes.{Sizes}
-use Rattle.tag.specs.Vectors.{mixed}
+use Rattle.sizes.specs.declared.Sizes.{Sizes}
+use Rattle.vector.specs.Vectors.{mixed}
 use Rattle.tag.specs.KeyVector.{keyVector}
 use Rattle.archive.specs.Layout.{recordLength, placeNumber, sizesOf, idOf, filledIn, byteIn, badArchive, stored}
 use Rattle.archive.specs.Blocks.{fileLength, paddingLength, codedRecord}

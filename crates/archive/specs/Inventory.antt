@@ -7,12 +7,11 @@ use lib.ListN.{length}
 use lib.Dec.{eqb}
 use Rattle.lists.specs.Lists.{at}
 use Rattle.answer.specs.declared.Outcome.{Outcome}
-use Rattle.answer.specs.declared.Outcome.the-variants.{Done}
-use Rattle.answer.specs.declared.Outcome.the-variants.{Refused as RefusedOutcome}
+use Rattle.answer.specs.declared.Outcome.the-variants.{Done, Refused as RefusedOutcome}
 use Rattle.answer.specs.declared.Refusal.the-variants.{Length, BadArchive}
 use Rattle.answer.specs.Refusals.{refuse, differs}
 use Rattle.bits.specs.Fields.{bit}
-use Rattle.tag.specs.declared.Sizes.{Sizes}
+use Rattle.sizes.specs.declared.Sizes.{Sizes}
 use Rattle.archive.specs.Layout.{placeCount, sizesOf, filledIn, badArchive}
 use Rattle.archive.specs.Read.{howMany}
 use Rattle.archive.specs.declared.Counted.{Counted}

@@ -10,8 +10,8 @@ use Rattle.answer.specs.declared.Outcome.the-variants.{Done}
 use Rattle.answer.specs.declared.Refusal.the-variants.{Size, Length}
 use Rattle.answer.specs.Refusals.{refuse, afterwards, differs}
 use Rattle.bits.specs.Fields.{Field, _wide_, pack, packed, bitAt, fieldAt}
-use Rattle.tag.specs.declared.Sizes.{Sizes}
-use Rattle.tag.specs.Sizes.{sizesOutside}
+use Rattle.sizes.specs.declared.Sizes.{Sizes}
+use Rattle.sizes.specs.Sizes.{sizesOutside}
 
 -- ---- sizes and offsets
 

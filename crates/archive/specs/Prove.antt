@@ -10,8 +10,8 @@ use Rattle.answer.specs.declared.Outcome.{Outcome}
 use Rattle.answer.specs.declared.Outcome.the-variants.{Done}
 use Rattle.answer.specs.declared.Refusal.the-variants.{Length, BadArchive, NoSuchPlace, PlaceEmpty, Malformed}
 use Rattle.answer.specs.Refusals.{refuse, afterwards, differs}
-use Rattle.tag.specs.declared.Sizes.{Sizes}
-use Rattle.tag.specs.Vectors.{mixed}
+use Rattle.sizes.specs.declared.Sizes.{Sizes}
+use Rattle.vector.specs.Vectors.{mixed}
 use Rattle.mask.specs.Masks.{maskRow, maskCoefficient, mask, maskSum}
 use Rattle.mask.specs.Response.{responseLength, responseBytes}
 use Rattle.audit.specs.Challenge.{Challenge, challengeOf, malformedChallenge}

@@ -8,13 +8,12 @@ use lib.ListN.{length}
 use lib.Dec.{ltb}
 use Rattle.lists.specs.Lists.{pick, at}
 use Rattle.answer.specs.declared.Outcome.{Outcome}
-use Rattle.answer.specs.declared.Outcome.the-variants.{Done}
-use Rattle.answer.specs.declared.Outcome.the-variants.{Refused as RefusedOutcome}
+use Rattle.answer.specs.declared.Outcome.the-variants.{Done, Refused as RefusedOutcome}
 use Rattle.answer.specs.declared.Refusal.the-variants.{Length, BadArchive, Unreadable}
 use Rattle.answer.specs.Refusals.{refuse, differs}
 use Rattle.bits.specs.Fields.{bit}
-use Rattle.tag.specs.declared.Sizes.{Sizes}
-use Rattle.tag.specs.Vectors.{product, mixed}
+use Rattle.sizes.specs.declared.Sizes.{Sizes}
+use Rattle.vector.specs.Vectors.{product, mixed}
 use Rattle.archive.specs.Layout.{placeCount, sizesOf, markAt, byteIn, badArchive}
 use Rattle.archive.specs.Blocks.{fileLength}
 use Rattle.archive.specs.declared.Counted.{Counted}

@@ -5,9 +5,9 @@ ghost use Prim.Native.Nat.{_+_, _*_, _<_, _≤_};
 ghost use lib.ListN.{length};
 ghost use lib.Dec.{leb};
 ghost use Rattle.lists.specs.Lists.{pick, anyBelow};
-ghost use Rattle.tag.specs.Sizes.{sizesOutside};
+ghost use Rattle.sizes.specs.Sizes.{sizesOutside};
 ghost use Rattle.archive.specs.Layout.{recordLength, archiveLength, recordStart, sizesOf, markAt, badArchive};
-use tag::Sizes;
+use sizes::Sizes;
 
 // The bytes of a record: block, then tag.
 pub fn record_length(z: Sizes) -> usize
@@ -77,7 +77,7 @@ pub fn bad_archive(s: &[u8]) -> bool
     let z = sizes_in(s);
     let layout = bits::read_field(s, 0, 4);
     let spare = bits::read_field(s, 27, 5);
-    if (layout != 1) | tag::sizes_outside(z) | (spare != 0) {
+    if (layout != 1) | sizes::sizes_outside(z) | (spare != 0) {
         return true;
     }
     if s.len() != archive_length(z) {

@@ -2,18 +2,18 @@
 ghost use mathlib.Core.Path.{_≡_};
 ghost use mathlib.Core.Bool.{false};
 ghost use lib.ListN.{length};
-ghost use Rattle.tag.specs.Sizes.{sizesOutside};
+ghost use Rattle.sizes.specs.Sizes.{sizesOutside};
 ghost use Rattle.archive.specs.Layout.{archiveLength, opened, openAnswer, openOut};
 use crate::layout::archive_length;
 use answer::Outcome;
 use answer::Refusal;
-use tag::Sizes;
+use sizes::Sizes;
 
 // The first refusal of Open.
 fn open_check(z: Sizes, id: &[u8], archive: &[u8]) -> Outcome
     ensures { λ r. ⌜ r ≡ openAnswer z (now (id .entry)) (now (archive .entry)) ⌝ }
 {
-    if tag::sizes_outside(z) {
+    if sizes::sizes_outside(z) {
         return Outcome::Refused(Refusal::Size);
     }
     if (id.len() != 8) | (archive.len() != archive_length(z)) {

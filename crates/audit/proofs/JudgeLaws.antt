@@ -14,18 +14,17 @@ use Rattle.lists.proofs.TabLaws.{order}
 use Rattle.lists.proofs.AnyLaws.{any-first, any-rest}
 use Rattle.answer.specs.declared.Refusal.{Refusal}
 use Rattle.answer.specs.declared.Outcome.{Outcome}
-use Rattle.answer.specs.declared.Outcome.the-variants.{Done}
-use Rattle.answer.specs.declared.Outcome.the-variants.{Refused as RefusedOutcome}
+use Rattle.answer.specs.declared.Outcome.the-variants.{Done, Refused as RefusedOutcome}
 use Rattle.answer.proofs.RefusalLaws.{accepted, same}
 use Rattle.field.specs.Field.{plus}
 use Rattle.keystream.specs.Draws.{byteAt}
-use Rattle.tag.specs.declared.Sizes.{Sizes}
-use Rattle.tag.specs.Sizes.{sizesOutside}
+use Rattle.sizes.specs.declared.Sizes.{Sizes}
+use Rattle.sizes.specs.Sizes.{sizesOutside}
 use Rattle.tag.specs.KeyVector.{keyVector}
-use Rattle.tag.specs.Vectors.{product, added}
-use Rattle.tag.proofs.SizeLaws.{ranged}
-use Rattle.tag.proofs.VectorLaws.{mixed-vectors, product-same, product-keys, product-split}
-use Rattle.tag.proofs.AddedLaws.{added-zeros}
+use Rattle.vector.specs.Vectors.{product, added}
+use Rattle.sizes.proofs.SizeLaws.{ranged}
+use Rattle.vector.proofs.VectorLaws.{mixed-vectors, product-same, product-keys, product-split}
+use Rattle.vector.proofs.AddedLaws.{added-zeros}
 use Rattle.linear.specs.declared.rows.Row.{Row}
 use Rattle.linear.specs.Rows.{kept}
 use Rattle.linear.proofs.KeptLaws.{row-stored, kept-same, kept-at}

@@ -11,9 +11,9 @@ use Rattle.lists.proofs.AnyLaws.{any-first, any-rest, any-below}
 use Rattle.field.specs.Field.{plus, times}
 use Rattle.field.proofs.SumLaws.{sum-same}
 use Rattle.bits.specs.Fields.{fieldAt}
-use Rattle.tag.specs.declared.Sizes.{Sizes}
-use Rattle.tag.specs.Vectors.{mixed, added}
-use Rattle.tag.proofs.AddedLaws.{added-at, mixed-more, vector-in}
+use Rattle.sizes.specs.declared.Sizes.{Sizes}
+use Rattle.vector.specs.Vectors.{mixed, added}
+use Rattle.vector.proofs.AddedLaws.{added-at, mixed-more, vector-in}
 use Rattle.audit.specs.Challenge.{Challenge, challengeBits, challengeOf, malformedChallenge}
 use Rattle.audit.specs.Verdict.{notThere}
 use Rattle.audit.proofs.ReadLaws.{readable}

@@ -11,9 +11,9 @@ use borrow.Author.Tests.{eq-eqb, ne-eqb, eqb-true, eqb-false}
 use Rattle.lists.specs.Lists.{pick}
 use Rattle.field.specs.Field.{plus}
 use Rattle.field.proofs.XorLaws.{xor-undo, xor-swap}
-use Rattle.tag.specs.declared.Sizes.{Sizes}
-use Rattle.tag.specs.Vectors.{product}
-use Rattle.tag.proofs.VectorLaws.{product-same, product-left, product-cut}
+use Rattle.sizes.specs.declared.Sizes.{Sizes}
+use Rattle.vector.specs.Vectors.{product}
+use Rattle.vector.proofs.VectorLaws.{product-same, product-left, product-cut}
 use Rattle.mask.specs.Response.{dataIn, sumIn, tagIn}
 use Rattle.audit.specs.Verdict.{appended, accepts}
 

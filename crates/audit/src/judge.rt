@@ -6,7 +6,7 @@ ghost use lib.ListN.{length};
 ghost use Rattle.lists.specs.Lists.{at};
 ghost use Rattle.answer.specs.Refusals.{Passed};
 ghost use Rattle.field.specs.Tables.{PowerTable, LogTable};
-ghost use Rattle.tag.specs.Sizes.{sizesOutside};
+ghost use Rattle.sizes.specs.Sizes.{sizesOutside};
 ghost use Rattle.linear.specs.Rows.{kept};
 ghost use Rattle.mask.specs.Response.{responseLength};
 ghost use Rattle.audit.specs.Challenge.{challengeOf, malformedChallenge};
@@ -19,7 +19,7 @@ use crate::message::not_there;
 use answer::Outcome;
 use answer::Refusal;
 use linear::Row;
-use tag::Sizes;
+use sizes::Sizes;
 
 // The number of a judgement.
 pub fn number(j: Judgement) -> u8
@@ -43,7 +43,7 @@ fn verdict_check(
 ) -> Outcome
     ensures { λ r. ⌜ r ≡ verdictFor z (now (key .entry)) (now (id .entry)) (now (rows .entry)) (challengeOf (now (message .entry))) (malformedChallenge (now (message .entry))) (now (response .entry)) ⌝ }
 {
-    if tag::sizes_outside(z) {
+    if sizes::sizes_outside(z) {
         return Outcome::Refused(Refusal::Size);
     }
     if malformed(message) {
@@ -88,8 +88,8 @@ fn agrees(
     ensures { λ r. ⌜ r ≡ accepts z (at (now (vector .entry))) (at (row .bytes)) (now (response .entry)) ⌝ }
 {
     let n = z.n;
-    let masked = tag::product_of(powers, logs, &response[1..n - 1], vector, n - 2);
-    let clear = tag::product_of(
+    let masked = vector::product_of(powers, logs, &response[1..n - 1], vector, n - 2);
+    let clear = vector::product_of(
         powers,
         logs,
         &response[n + 11..n + 13],

@@ -7,12 +7,12 @@ ghost use lib.Dec.{ltb, leb};
 ghost use Rattle.lists.specs.Lists.{at, anyBelow};
 ghost use Rattle.field.specs.Tables.{PowerTable, LogTable};
 ghost use Rattle.bits.specs.Fields.{fieldAt};
-ghost use Rattle.tag.specs.Vectors.{mixed, added};
+ghost use Rattle.vector.specs.Vectors.{mixed, added};
 ghost use Rattle.audit.specs.Challenge.{challengeFor, challengeBits, challengeLength, challengeBytes, outOfRule, challengeOf, malformedChallenge, challengeAnswer, challengeOut};
 ghost use Rattle.audit.specs.Verdict.{notThere};
 use answer::Outcome;
 use answer::Refusal;
-use tag::Sizes;
+use sizes::Sizes;
 
 // The bytes of a challenge of so many items.
 fn message_length(count: usize) -> usize
@@ -219,7 +219,7 @@ pub fn add_named(
 {
     for j in 0..count_in(message) {
         let first = start + place_in(message, j) * len;
-        tag::add_multiple(
+        vector::add_multiple(
             powers,
             logs,
             coefficient_in(message, j),

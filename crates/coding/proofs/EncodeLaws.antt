@@ -19,13 +19,13 @@ use Rattle.field.specs.Field.{plus}
 use Rattle.field.proofs.SumLaws.{sum-same}
 use Rattle.keystream.specs.declared.stream.Stream.{Stream}
 use Rattle.keystream.specs.Draws.{fresh, drawn, after}
-use Rattle.tag.specs.declared.Sizes.{Sizes}
-use Rattle.tag.specs.Vectors.{product, mixed, added}
+use Rattle.sizes.specs.declared.Sizes.{Sizes}
+use Rattle.vector.specs.Vectors.{product, mixed, added}
 use Rattle.tag.specs.KeyVector.{keyVector, withTag}
-use Rattle.tag.proofs.SizeLaws.{Ranged}
+use Rattle.sizes.proofs.SizeLaws.{Ranged}
 use Rattle.tag.proofs.StreamLaws.{key-drawn}
-use Rattle.tag.proofs.VectorLaws.{mixed-same, product-same, product-keys}
-use Rattle.tag.proofs.AddedLaws.{length-added, added-at, added-below, added-above}
+use Rattle.vector.proofs.VectorLaws.{mixed-same, product-same, product-keys}
+use Rattle.vector.proofs.AddedLaws.{length-added, added-at, added-below, added-above}
 use Rattle.linear.specs.declared.rows.Row.{Row}
 use Rattle.linear.specs.Rows.{kept}
 use Rattle.linear.proofs.KeptLaws.{kept-at}

@@ -19,9 +19,9 @@ use Rattle.answer.specs.Refusals.{Passed, differs, outside}
 use Rattle.answer.proofs.RefusalLaws.{refused, passed, accepted, same, inside, after-done, after-refused}
 use Rattle.field.specs.Field.{times}
 use Rattle.field.proofs.SumLaws.{sum-same, sum-rows}
-use Rattle.tag.specs.declared.Sizes.{Sizes}
-use Rattle.tag.specs.Vectors.{mixed}
-use Rattle.tag.proofs.SizeLaws.{Ranged}
+use Rattle.sizes.specs.declared.Sizes.{Sizes}
+use Rattle.vector.specs.Vectors.{mixed}
+use Rattle.sizes.proofs.SizeLaws.{Ranged}
 use Rattle.archive.specs.Layout.{recordLength, archiveLength, recordStart, placeNumber, sizesOf, idOf, markAt, byteIn, badArchive, withMarks, stored}
 use Rattle.archive.specs.Calls.{repair, answerFor, archiveAnswer, coefficient, repairByte, targetByte, effectFor, scratchMade, scratchAfter}
 use Rattle.archive.proofs.SizeLaws.{number-low, count-low, record-fits}

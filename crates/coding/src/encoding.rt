@@ -6,7 +6,7 @@ ghost use lib.ListN.{length};
 ghost use Rattle.lists.specs.Lists.{at, put};
 ghost use Rattle.answer.specs.Refusals.{Passed};
 ghost use Rattle.field.specs.Tables.{PowerTable, LogTable};
-ghost use Rattle.tag.specs.Sizes.{sizesOutside};
+ghost use Rattle.sizes.specs.Sizes.{sizesOutside};
 ghost use Rattle.archive.specs.Layout.{blockLength, sizesOf, idOf};
 ghost use Rattle.archive.specs.Blocks.{fileLength, paddingLength, coded};
 ghost use Rattle.archive.specs.Calls as Calls;
@@ -20,7 +20,7 @@ use archive::set_marks;
 use archive::sizes_in;
 use keystream::Stream;
 use linear::Row;
-use tag::Sizes;
+use sizes::Sizes;
 
 // The first refusal of Encode.
 fn encode_check(
@@ -72,7 +72,7 @@ fn write_block(
     let m = z.m;
     let elements = row.bytes;
     lists::zero(archive, start, n);
-    tag::combine(
+    vector::combine(
         powers,
         logs,
         m,
@@ -85,7 +85,7 @@ fn write_block(
         start,
         n - 2,
     );
-    tag::combine(
+    vector::combine(
         powers,
         logs,
         m,

@@ -6,8 +6,8 @@ ghost use lib.ListN.{length};
 ghost use lib.Dec.{leb};
 ghost use Rattle.lists.specs.Lists.{pick, at, anyBelow, grid};
 ghost use Rattle.answer.specs.Refusals.{Passed};
-ghost use Rattle.tag.specs.Sizes.{sizesOutside};
-ghost use Rattle.tag.specs.Vectors.{mixed};
+ghost use Rattle.sizes.specs.Sizes.{sizesOutside};
+ghost use Rattle.vector.specs.Vectors.{mixed};
 ghost use Rattle.field.specs.Tables.{PowerTable, LogTable};
 ghost use Rattle.archive.specs.Layout.{recordLength, archiveLength, recordStart, sizesOf, idOf, filledIn, badArchive};
 ghost use Rattle.archive.specs.Calls as Calls;
@@ -20,7 +20,7 @@ use archive::record_length;
 use archive::record_start;
 use archive::set_marks;
 use archive::sizes_in;
-use tag::Sizes;
+use sizes::Sizes;
 
 // Whether a helper is no node.
 fn any_missing(helpers: &[u8], nodes: usize) -> bool
@@ -119,7 +119,7 @@ fn repair_blocks(
     for t in 0..helpers.len() * q {
         let first = record_start(z, lists::widen(helpers[t / q]) * places);
         lists::zero(scratch, t * len, len);
-        tag::combine(
+        vector::combine(
             powers,
             logs,
             places,
@@ -154,7 +154,7 @@ fn target_records(
     for k in 0..places {
         let start = record_start(z, target * places + k);
         lists::zero(archive, start, len);
-        tag::combine(
+        vector::combine(
             powers,
             logs,
             count,

@@ -11,8 +11,8 @@ use Rattle.field.proofs.XorLaws.{xors}
 use Rattle.field.proofs.SumLaws.{sum-none, sum-last, sum-same, sum-zero, sum-swap, sum-one, sum-lt}
 use Rattle.field.proofs.TimesLaws.{times-lt, times-comm, times-assoc, zero-times, times-zero, one-times, times-sum, sum-times}
 use Rattle.field.proofs.InverseLaws.{times-inverse}
-use Rattle.tag.specs.Vectors.{product, mixed}
-use Rattle.tag.proofs.VectorLaws.{product-same, product-right, product-mixed, mixed-scale}
+use Rattle.vector.specs.Vectors.{product, mixed}
+use Rattle.vector.proofs.VectorLaws.{product-same, product-right, product-mixed, mixed-scale}
 use Rattle.linear.specs.Elimination.{Matrix, BytesTo, Determining, Independent, Orthogonal, Vanishing, Reduces, LastIsCombined}
 use Rattle.linear.specs.Steps.{Vec, unitAt}
 use Rattle.linear.proofs.OpLaws.{times-one, sel-other, sel-self, unit-byte, Agree, Op}

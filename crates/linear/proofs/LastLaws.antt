@@ -11,8 +11,8 @@ use Rattle.lists.proofs.OverLaws.{over-below, over-within}
 use Rattle.field.specs.Field.{times}
 use Rattle.field.proofs.SumLaws.{sum-same, sum-more}
 use Rattle.field.proofs.TimesLaws.{one-times, times-mod-left}
-use Rattle.tag.specs.Vectors.{mixed}
-use Rattle.tag.proofs.VectorLaws.{mixed-lt}
+use Rattle.vector.specs.Vectors.{mixed}
+use Rattle.vector.proofs.VectorLaws.{mixed-lt}
 use Rattle.linear.specs.Elimination.{Matrix, BytesTo, Independent}
 use Rattle.linear.specs.Steps.{Vec}
 

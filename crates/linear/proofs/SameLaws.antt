@@ -1,8 +1,8 @@
 -- Elimination tells the same of matrices that agree, and where the rank is m every vector is a combination of the rows. Assumes nothing.
 use Prim.Native.Nat.{ℕ, _<_}
 use mathlib.Core.Path.{_≡_, sym, _∙_}
-use Rattle.tag.specs.Vectors.{product, mixed}
-use Rattle.tag.proofs.VectorLaws.{mixed-mixed, mixed-vectors, product-same, product-keys}
+use Rattle.vector.specs.Vectors.{product, mixed}
+use Rattle.vector.proofs.VectorLaws.{mixed-mixed, mixed-vectors, product-same, product-keys}
 use Rattle.linear.specs.Elimination.{Matrix, BytesTo, Determining, Independent, Orthogonal, Vanishing, Reduces}
 use Rattle.linear.specs.Steps.{Vec, unitAt}
 use Rattle.linear.proofs.OpLaws.{unit-byte}

@@ -5,7 +5,7 @@ use mathlib.Core.Logic.{_↔_, _≢_}
 use mathlib.Core.List.{List, []}
 use lib.ListN.{getD}
 use Rattle.lists.specs.Lists.{at}
-use Rattle.tag.specs.Vectors.{product, mixed}
+use Rattle.vector.specs.Vectors.{product, mixed}
 
 abbrev pub Matrix : Type 0
 Matrix = ℕ → ℕ → ℕ

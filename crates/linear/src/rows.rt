@@ -4,7 +4,7 @@ ghost use Prim.Native.Nat.{_+_, _≤_};
 ghost use lib.ListN.{length};
 ghost use Rattle.lists.specs.Lists.{at};
 ghost use Rattle.field.specs.Tables.{PowerTable, LogTable};
-ghost use Rattle.tag.specs.Vectors.{product};
+ghost use Rattle.vector.specs.Vectors.{product};
 ghost use Rattle.linear.specs.Rows.{kept};
 
 // A row of m elements, kept as sixteen bytes, those past m zero.
@@ -28,5 +28,5 @@ pub fn dot(powers: &[u8; 510], logs: &[u8; 256], row: Row, vector: &[u8], m: usi
     ensures { λ r. ⌜ r ≡ product m (at (row .bytes)) (at (now (vector .entry))) ⌝ }
 {
     let bytes = row.bytes;
-    tag::product_of(powers, logs, &bytes, vector, m)
+    vector::product_of(powers, logs, &bytes, vector, m)
 }

@@ -4,7 +4,7 @@ ghost use Prim.Native.Nat.{min};
 ghost use lib.ListN.{length};
 ghost use Rattle.lists.specs.Lists.{at};
 ghost use Rattle.field.specs.Field.{sum};
-ghost use Rattle.tag.specs.Vectors.{product};
+ghost use Rattle.vector.specs.Vectors.{product};
 ghost use Rattle.keystream.specs.Draws.{byteAt};
 use keystream::Stream;
 
@@ -23,7 +23,7 @@ pub extern "C" fn loops_product(a: &[u8], b: &[u8]) -> u8
     let powers = t.powers;
     let logs = t.logs;
     let n = shorter(a.len(), b.len());
-    tag::product_of(&powers, &logs, a, b, n)
+    vector::product_of(&powers, &logs, a, b, n)
 }
 
 // The sum of the first n bytes of a stream.

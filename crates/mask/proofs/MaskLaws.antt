@@ -5,8 +5,8 @@ use lib.ListN.{length}
 use Rattle.lists.proofs.TabLaws.{length-tab, tab-at}
 use Rattle.field.specs.Field.{times}
 use Rattle.field.proofs.SumLaws.{sum-same}
-use Rattle.tag.specs.Vectors.{product}
-use Rattle.tag.proofs.VectorLaws.{product-mixed}
+use Rattle.vector.specs.Vectors.{product}
+use Rattle.vector.proofs.VectorLaws.{product-mixed}
 use Rattle.mask.specs.Masks.{auxiliary, mask, maskSum}
 
 pub length-auxiliary : (n : ℕ) (vector : ℕ → ℕ) (rows : ℕ → ℕ → ℕ) → length (auxiliary n vector rows) ≡ n - 1

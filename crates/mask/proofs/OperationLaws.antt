@@ -20,9 +20,9 @@ use Rattle.keystream.specs.Draws.{byteAt, fresh, drawn, after}
 use Rattle.keystream.specs.declared.stream.Stream.{Stream}
 use Rattle.keystream.proofs.DrawLaws.{draws-in-order}
 use Rattle.tag.specs.KeyVector.{keyVector}
-use Rattle.tag.specs.Vectors.{product, added}
-use Rattle.tag.proofs.VectorLaws.{mixed-same, product-keys}
-use Rattle.tag.proofs.AddedLaws.{length-added, added-at, added-same}
+use Rattle.vector.specs.Vectors.{product, added}
+use Rattle.vector.proofs.VectorLaws.{mixed-same, product-keys}
+use Rattle.vector.proofs.AddedLaws.{length-added, added-at, added-same}
 use Rattle.mask.specs.Masks.{F3, maskRow, maskCoefficient, auxiliary, mask, maskSum}
 use Rattle.mask.specs.Response.{responseLength, dataIn, seedIn}
 use Rattle.mask.specs.Operations.{setupAnswer, setupOut, unmaskAnswer, unmasked, unmaskOut}

@@ -3,7 +3,7 @@ use Prim.Native.Nat.{ℕ, _-_, _<_, _≤_}
 use mathlib.Core.Path.{_≡_}
 use mathlib.Core.List.{List}
 use lib.ListN.{length}
-use Rattle.tag.specs.Vectors.{product}
+use Rattle.vector.specs.Vectors.{product}
 use Rattle.mask.specs.Masks.{maskRow, maskCoefficient, auxiliary, mask, maskSum}
 use Rattle.mask.specs.Response.{responseBytes}
 use Rattle.mask.specs.Operations.{unmasked}

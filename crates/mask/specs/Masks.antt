@@ -4,7 +4,7 @@ use mathlib.Core.List.{List, _∷_}
 use Rattle.lists.specs.Lists.{at, tab}
 use Rattle.field.specs.Field.{sum, times}
 use Rattle.keystream.specs.Draws.{byteAt}
-use Rattle.tag.specs.Vectors.{product, mixed}
+use Rattle.vector.specs.Vectors.{product, mixed}
 
 -- "F2(k, id, i, j): byte j−1 with nonce 02 00, i as two bytes (high first), id"
 unfoldable pub F2 : List ℕ → List ℕ → ℕ → ℕ → ℕ

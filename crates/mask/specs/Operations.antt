@@ -11,7 +11,7 @@ use Rattle.answer.specs.declared.Refusal.the-variants.{Size, Length, ZeroKeyVec
 use Rattle.answer.specs.Refusals.{refuse, afterwards, differs}
 use Rattle.field.specs.Field.{plus}
 use Rattle.bits.specs.Fields.{fieldAt}
-use Rattle.tag.specs.Sizes.{nOutside}
+use Rattle.sizes.specs.Sizes.{nOutside}
 use Rattle.tag.specs.KeyVector.{keyVector}
 use Rattle.mask.specs.Masks.{maskRow, maskCoefficient, auxiliary, mask}
 use Rattle.mask.specs.Response.{responseLength, dataIn, seedIn}

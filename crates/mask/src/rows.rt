@@ -6,7 +6,7 @@ ghost use lib.ListN.{length};
 ghost use Rattle.lists.specs.Lists.{at};
 ghost use Rattle.field.specs.Tables.{PowerTable, LogTable};
 ghost use Rattle.keystream.specs.Draws.{drawn, after};
-ghost use Rattle.tag.specs.Vectors.{added};
+ghost use Rattle.vector.specs.Vectors.{added};
 ghost use Rattle.mask.specs.Masks.{maskRow, maskCoefficient, auxiliary, mask, maskSum};
 use keystream::Stream;
 
@@ -37,7 +37,7 @@ pub fn auxiliary_into(
 {
     for i in 0..n - 1 {
         let row = mask_row(key, id, i, n);
-        out[i] = tag::product_of(powers, logs, &row, vector, n - 2);
+        out[i] = vector::product_of(powers, logs, &row, vector, n - 2);
     }
 }
 
@@ -59,7 +59,7 @@ fn add_rows(
     for i in 0..n - 1 {
         let d = s.next();
         let row = mask_row(key, id, i, n);
-        tag::add_multiple(powers, logs, d.byte, &row, 0, out, from, n - 2);
+        vector::add_multiple(powers, logs, d.byte, &row, 0, out, from, n - 2);
         let t = d.stream;
         s = t;
     }

@@ -16,23 +16,23 @@ use Rattle.lists.proofs.AnyLaws.{any-none}
 use Rattle.answer.specs.declared.Outcome.the-variants.{Done}
 use Rattle.answer.specs.Refusals.{refuse, afterwards}
 use Rattle.field.specs.Field.{plus}
-use Rattle.tag.specs.Vectors.{product}
+use Rattle.vector.specs.Vectors.{product}
 use Rattle.tag.specs.KeyVector.{withTag, keyVector}
-use Rattle.tag.proofs.VectorLaws.{mixed-mixed, mixed-vectors, mixed-lt, product-same, product-left, product-cut, tags-combine}
+use Rattle.vector.proofs.VectorLaws.{mixed-mixed, mixed-vectors, mixed-lt, product-same, product-left, product-cut}
+use Rattle.tag.proofs.TagLaws.{tags-combine}
 use Rattle.mask.specs.Masks.{maskRow, maskCoefficient, auxiliary, mask, maskSum}
 use Rattle.mask.specs.Response.{responseLength, responseHead, sumIn, tagIn}
 use Rattle.mask.proofs.MaskLaws.{length-auxiliary, mask-sum}
 use Rattle.mask.proofs.ResponseLaws.{response-length, response-first, response-sum, response-tag, response-data, response-same}
 use Rattle.audit.specs.Challenge.{Challenge, challengeOf, malformedChallenge}
-use Rattle.audit.specs.Verdict.{verdictFor, appended, accepts, judgement, verdictOf}
-use Rattle.audit.specs.Verdict.{namedRow as givenRow}
+use Rattle.audit.specs.Verdict.{verdictFor, appended, accepts, judgement, verdictOf, namedRow as givenRow}
 use Rattle.audit.specs.declared.Judgement.the-variants.{Accepted, Rejected}
 use Rattle.audit.proofs.ChallengeLaws.{in-rule, challenge-back, well-formed, asked-even, asked-rule, asked-bytes}
 use Rattle.audit.proofs.VerdictLaws.{altered}
 use Rattle.archive.specs.Layout.{blockLength, recordLength, filledIn}
 use Rattle.archive.specs.Blocks.{source, coded}
 use Rattle.archive.specs.Prove.{proveFor, proveAnswer, responseFor, namedByte, provedFor, proveOut}
-use Rattle.tag.proofs.SizeLaws.{not-sizes-outside}
+use Rattle.sizes.proofs.SizeLaws.{not-sizes-outside}
 use Rattle.archive.proofs.BlockLaws.{coded-row}
 use Rattle.promise.specs.Table.{Table, element}
 use Rattle.promise.specs.Image.{vector, image}

@@ -13,7 +13,7 @@ use Rattle.mask.specs.Operations.{setupAnswer, setupOut}
 use Rattle.archive.specs.Layout.{placeNumber, blockLength, openAnswer, openOut}
 use Rattle.archive.specs.Calls.{Call, archiveAnswers, archiveRun}
 use Rattle.archive.specs.Read.{rowIn}
-use Rattle.tag.proofs.SizeLaws.{ranged}
+use Rattle.sizes.proofs.SizeLaws.{ranged}
 use Rattle.promise.specs.Table.{Place, filled, Table, allEmpty, tableAnswers, tableRun}
 use Rattle.promise.specs.Image.{placeRecord, image}
 use Rattle.promise.specs.Demand3.{Given, setting, Admitted, HoldsCoded, Demand, Demand3}

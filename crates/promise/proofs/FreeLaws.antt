@@ -8,8 +8,7 @@ use native.Mathlib.Omega.{arith}
 use lib.ListN.{length}
 use borrow.Author.Tests.{eq-eqb, ne-eqb}
 use Rattle.lists.specs.Lists.{at}
-use Rattle.answer.specs.declared.Outcome.the-variants.{Done}
-use Rattle.answer.specs.declared.Outcome.the-variants.{Refused as RefusedOutcome}
+use Rattle.answer.specs.declared.Outcome.the-variants.{Done, Refused as RefusedOutcome}
 use Rattle.answer.specs.declared.Refusal.the-variants.{Length, BadArchive}
 use Rattle.answer.specs.Numbers.{refusalNumber}
 use Rattle.answer.specs.Refusals.{refuse, differs}
@@ -17,8 +16,8 @@ use Rattle.answer.proofs.RefusalLaws.{never-both, same-refusal}
 use Rattle.field.specs.Field.{times}
 use Rattle.field.proofs.SumLaws.{sum-same}
 use Rattle.bits.specs.Fields.{bit}
-use Rattle.tag.specs.declared.Sizes.{Sizes}
-use Rattle.tag.specs.Vectors.{product, mixed}
+use Rattle.sizes.specs.declared.Sizes.{Sizes}
+use Rattle.vector.specs.Vectors.{product, mixed}
 use Rattle.archive.specs.Layout.{placeCount, markAt, byteIn, badArchive}
 use Rattle.archive.specs.Blocks.{fileLength, coded}
 use Rattle.archive.specs.Read.{Bytes, rowIn, Blind, among, Enough, ReadFor, ReadAllows}
@@ -26,7 +25,7 @@ use Rattle.archive.specs.Inventory.{Listed, InventoryFor, InventoryAllows}
 use Rattle.archive.specs.Counted.{countedNumber, countedValue}
 use Rattle.archive.specs.declared.Counted.{Counted}
 use Rattle.archive.specs.declared.Counted.the-variants.{Count, Refused}
-use Rattle.tag.proofs.SizeLaws.{Ranged}
+use Rattle.sizes.proofs.SizeLaws.{Ranged}
 use Rattle.archive.proofs.SizeLaws.{count-low, node-of, place-of}
 use Rattle.archive.proofs.BlockLaws.{source-file}
 use Rattle.archive.proofs.ReadLaws.{howMany-same, blind-same, solution-only}

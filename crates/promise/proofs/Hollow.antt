@@ -7,15 +7,14 @@ use mathlib.Core.Logic.{⊎-elim}
 use native.Mathlib.Nat.{div-add-mod'}
 use native.Mathlib.Omega.{arith}
 use Rattle.lists.specs.Lists.{tab, over, anyOf}
-use Rattle.answer.specs.declared.Outcome.the-variants.{Done}
-use Rattle.answer.specs.declared.Outcome.the-variants.{Refused as RefusedOutcome}
+use Rattle.answer.specs.declared.Outcome.the-variants.{Done, Refused as RefusedOutcome}
 use Rattle.answer.specs.declared.Refusal.the-variants.{Length, BadArchive, Unreadable}
 use Rattle.answer.specs.Refusals.{refuse, afterwards}
 use Rattle.field.specs.Field.{sum, modulus, xtime, xtimes, times}
 use Rattle.keystream.specs.ChaCha.{half, quarterOf, setFour, quarter, quadruples, quartersTo, rounds, blockWords, serialised, wordAt, start, blockOf}
 use Rattle.keystream.specs.Draws.{byteAt}
 use Rattle.bits.specs.Fields.{bitOf, bitsOf, widths, number, packed, pack}
-use Rattle.tag.specs.Vectors.{product, mixed}
+use Rattle.vector.specs.Vectors.{product, mixed}
 use Rattle.mask.specs.Masks.{F2, maskRow, auxiliary, mask, maskSum}
 use Rattle.mask.specs.Response.{responseBytes, dataIn}
 use Rattle.audit.specs.Verdict.{namedRow, appended, accepts}

@@ -13,14 +13,15 @@ use Rattle.lists.proofs.TabLaws.{tab-at}
 use Rattle.lists.proofs.OverLaws.{over-map, over-same}
 use Rattle.field.specs.Field.{times}
 use Rattle.field.proofs.SumLaws.{sum-same}
-use Rattle.tag.specs.Vectors.{product, mixed}
+use Rattle.vector.specs.Vectors.{product, mixed}
 use Rattle.tag.specs.KeyVector.{withTag}
-use Rattle.tag.proofs.VectorLaws.{mixed-scale, mixed-sum, mixed-same, mixed-zero, tags-combine}
+use Rattle.vector.proofs.VectorLaws.{mixed-scale, mixed-sum, mixed-same, mixed-zero}
+use Rattle.tag.proofs.TagLaws.{tags-combine}
 use Rattle.archive.specs.Layout.{placeCount, blockLength, recordLength, placeNumber, sizesOf, idOf, markAt, filledIn, byteIn, badArchive, stored, opened}
 use Rattle.archive.specs.Blocks.{source, coded, codedRecord}
 use Rattle.archive.specs.Calls.{repairSum, repairByte, targetByte}
 use Rattle.archive.specs.Read.{rowIn}
-use Rattle.tag.proofs.SizeLaws.{Ranged}
+use Rattle.sizes.proofs.SizeLaws.{Ranged}
 use Rattle.archive.proofs.SizeLaws.{number-low, count-low}
 use Rattle.archive.proofs.LayoutLaws.{id-back, byte-back, mark-back, sizes-back, good-back, archive-same}
 use Rattle.archive.proofs.StoreLaws.{stored-is}

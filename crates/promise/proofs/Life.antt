@@ -13,9 +13,10 @@ use Rattle.field.specs.Field.{sum, modulus, xtime, xtimes, times}
 use Rattle.keystream.specs.ChaCha.{half, quarterOf, setFour, quarter, quadruples, quartersTo, rounds, blockWords, serialised, wordAt, start, blockOf}
 use Rattle.keystream.specs.Draws.{byteAt}
 use Rattle.bits.specs.Fields.{bitOf, bitsOf, widths, number, packed, pack}
-use Rattle.tag.specs.Sizes.{sizesOutside}
-use Rattle.tag.specs.Vectors.{product, mixed}
-use Rattle.tag.specs.KeyVector.{F1, keyVector, withTag, vectorAnswer, vectorOut}
+use Rattle.sizes.specs.Sizes.{sizesOutside}
+use Rattle.vector.specs.Vectors.{product, mixed}
+use Rattle.tag.specs.KeyVector.{F1, keyVector, withTag}
+use Rattle.tag.specs.Vector.{vectorAnswer, vectorOut}
 use Rattle.mask.specs.Masks.{F2, F3, maskRow, maskCoefficient, auxiliary, mask, maskSum}
 use Rattle.mask.specs.Operations.{setupAnswer, setupOut}
 use Rattle.mask.specs.Response.{responseBytes}

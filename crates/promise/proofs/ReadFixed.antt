@@ -5,14 +5,13 @@ use mathlib.Core.Logic.{⊎-elim}
 use mathlib.Core.List.{List}
 use Rattle.answer.specs.declared.Refusal.{Refusal}
 use Rattle.answer.specs.declared.Outcome.the-variants.{Done}
-use Rattle.answer.proofs.RefusalLaws.{accepted}
+use Rattle.answer.proofs.RefusalLaws.{accepted, never-both, same-refusal}
 use Rattle.archive.specs.Layout.{sizesOf}
 use Rattle.archive.specs.Read.{readBefore, ReadAllows}
 use Rattle.archive.specs.declared.Counted.the-variants.{Count, Refused}
 use Rattle.archive.proofs.GoodLaws.{good-sizes}
 use Rattle.archive.proofs.ReadLaws.{taken-same, solution-only}
 use Rattle.promise.specs.Companions.{ReadIsFixed}
-use Rattle.answer.proofs.RefusalLaws.{never-both, same-refusal}
 
 n-low : (s out : List ℕ) → readBefore (sizesOf s) s out ≡ Done → 3 ≤ sizesOf s .n
 n-low s out e = good-sizes s (accepted _ _ _ e .0) .n-low

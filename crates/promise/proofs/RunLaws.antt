@@ -14,7 +14,7 @@ use Rattle.answer.specs.declared.Outcome.the-variants.{Done, Refused}
 use Rattle.answer.specs.declared.Refusal.the-variants.{Size, Length, NoSuchPlace, PlaceEmpty, PlaceFilled}
 use Rattle.answer.specs.Refusals.{refuse, afterwards}
 use Rattle.answer.proofs.RefusalLaws.{accepted, refuse-same}
-use Rattle.tag.specs.declared.Sizes.{Sizes}
+use Rattle.sizes.specs.declared.Sizes.{Sizes}
 use Rattle.archive.specs.Calls.{Call, encode, lose, repair, answerFor, archiveAnswer, effectFor, archiveAfter, archiveAnswers, archiveRun}
 use Rattle.promise.specs.Table.{empty, filled, Table, tableAnswer, tableEffect, tableAfter, tableAnswers, tableRun}
 use Rattle.promise.specs.Image.{image}

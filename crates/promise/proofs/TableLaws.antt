@@ -21,11 +21,11 @@ use Rattle.answer.specs.Refusals.{afterwards}
 use Rattle.answer.proofs.RefusalLaws.{accepted, same}
 use Rattle.field.proofs.SumLaws.{sum-lt}
 use Rattle.field.proofs.TimesLaws.{times-lt}
-use Rattle.tag.specs.declared.Sizes.{Sizes}
+use Rattle.sizes.specs.declared.Sizes.{Sizes}
 use Rattle.archive.specs.Layout.{placeCount, placeNumber}
 use Rattle.archive.specs.Calls.{Call, encode, lose, repair, answerFor}
 use Rattle.archive.specs.Read.{Bytes}
-use Rattle.tag.proofs.SizeLaws.{Ranged}
+use Rattle.sizes.proofs.SizeLaws.{Ranged}
 use Rattle.archive.proofs.SizeLaws.{number-low, node-of, place-of}
 use Rattle.promise.specs.Table.{Place, empty, filled, Table, element, numbered, tableAnswer, repairedRow, written, tableEffect, tableAfter, tableRun}
 use Rattle.promise.specs.Demand3.{Given, TakesOne, Admitted}

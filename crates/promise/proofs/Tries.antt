@@ -9,16 +9,15 @@ use Rattle.lists.specs.Lists.{at, tab, anyOf, anyBelow}
 use Rattle.answer.specs.declared.Outcome.the-variants.{Done}
 use Rattle.answer.specs.Refusals.{refuse, outside}
 use Rattle.bits.specs.Fields.{bit, bitOf, bitsOf, widths, number, packed, pack, bitAt, fieldAt}
-use Rattle.tag.specs.declared.Sizes.{Sizes}
-use Rattle.tag.specs.Sizes.{sizesOutside}
+use Rattle.sizes.specs.declared.Sizes.{Sizes}
+use Rattle.sizes.specs.Sizes.{sizesOutside}
 use Rattle.audit.specs.Challenge.{Challenge, challengeOf, malformedChallenge, challengeAnswer, challengeOut}
-use Rattle.audit.proofs.ChallengeLaws.{in-rule, asked-even, asked-rule, asked-bytes}
-use Rattle.audit.proofs.ChallengeLaws.{challenge-back as read-back, well-formed}
+use Rattle.audit.proofs.ChallengeLaws.{in-rule, asked-even, asked-rule, asked-bytes, challenge-back as read-back, well-formed}
 use Rattle.archive.specs.Layout.{sizesOf, markAt, filledIn, badFor, openAnswer}
 use Rattle.archive.specs.Read.{Bytes, howMany}
 use Rattle.archive.specs.Inventory.{inventoryBefore, InventoryFor, InventoryAllows}
 use Rattle.archive.specs.declared.Counted.the-variants.{Count}
-use Rattle.tag.proofs.SizeLaws.{ranged}
+use Rattle.sizes.proofs.SizeLaws.{ranged}
 use Rattle.promise.specs.Worked as W
 use Rattle.promise.specs.Tries.{Tries}
 use Rattle.promise.proofs.ImageLaws.{image-good, opened-is}

@@ -15,9 +15,9 @@ use Rattle.field.specs.Inverse.{inverted}
 use Rattle.field.proofs.TimesLaws.{one-times, zero-times, times-zero}
 use Rattle.field.proofs.InverseLaws.{times-cancel}
 use Rattle.bits.specs.Fields.{bitOf, bitsOf, widths, number, packed, pack, bitAt, fieldAt}
-use Rattle.tag.specs.declared.Sizes.{Sizes}
-use Rattle.tag.specs.Sizes.{sizesOutside}
-use Rattle.tag.specs.Vectors.{product, mixed}
+use Rattle.sizes.specs.declared.Sizes.{Sizes}
+use Rattle.sizes.specs.Sizes.{sizesOutside}
+use Rattle.vector.specs.Vectors.{product, mixed}
 use Rattle.tag.specs.KeyVector.{withTag}
 use Rattle.mask.specs.Masks.{auxiliary, mask, maskSum}
 use Rattle.mask.specs.Response.{responseBytes, dataIn}

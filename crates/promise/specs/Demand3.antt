@@ -9,8 +9,8 @@ use lib.ListN.{length}
 use Rattle.lists.specs.Lists.{at, tab, flat}
 use Rattle.answer.specs.declared.Outcome.the-variants.{Done}
 use Rattle.field.specs.Field.{plus}
-use Rattle.tag.specs.declared.Sizes.{Sizes}
-use Rattle.tag.specs.Vectors.{product, mixed}
+use Rattle.sizes.specs.declared.Sizes.{Sizes}
+use Rattle.vector.specs.Vectors.{product, mixed}
 use Rattle.mask.specs.Operations.{setupAnswer, setupOut}
 use Rattle.mask.specs.Response.{responseLength, dataIn, sumIn, tagIn}
 use Rattle.audit.specs.Challenge.{Challenge, challengeAnswer, challengeOut}

@@ -9,7 +9,7 @@ use lib.Dec.{eqb}
 use Rattle.lists.specs.Lists.{tab}
 use Rattle.answer.specs.declared.Outcome.the-variants.{Done}
 use Rattle.answer.specs.declared.Refusal.the-variants.{Unreadable}
-use Rattle.tag.specs.Vectors.{product}
+use Rattle.vector.specs.Vectors.{product}
 use Rattle.mask.specs.Masks.{maskRow}
 use Rattle.mask.specs.Response.{tagIn}
 use Rattle.audit.specs.Verdict.{namedRow, appended, accepts}

@@ -3,7 +3,7 @@
 use Prim.Native.Nat.{ℕ}
 use mathlib.Core.List.{List}
 use Rattle.lists.specs.Lists.{at}
-use Rattle.tag.specs.declared.Sizes.{Sizes}
+use Rattle.sizes.specs.declared.Sizes.{Sizes}
 use Rattle.tag.specs.KeyVector.{keyVector}
 use Rattle.archive.specs.Layout.{archiveOf}
 use Rattle.archive.specs.Blocks.{codedRecord}

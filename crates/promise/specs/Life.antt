@@ -6,8 +6,8 @@ use mathlib.Core.List.{List, [], _∷_}
 use Rattle.lists.specs.Lists.{tab}
 use Rattle.answer.specs.declared.Outcome.the-variants.{Done, Refused}
 use Rattle.answer.specs.declared.Refusal.the-variants.{Length, NoSuchPlace, PlaceEmpty, PlaceFilled}
-use Rattle.tag.specs.declared.Sizes.{Sizes}
-use Rattle.tag.specs.KeyVector.{vectorOut}
+use Rattle.sizes.specs.declared.Sizes.{Sizes}
+use Rattle.tag.specs.Vector.{vectorOut}
 use Rattle.mask.specs.Operations.{setupAnswer}
 use Rattle.audit.specs.declared.Judgement.the-variants.{Accepted}
 use Rattle.archive.specs.Layout.{openAnswer, openOut}

@@ -7,7 +7,7 @@ use lib.Dec.{eqb, ltb}
 use Rattle.lists.specs.Lists.{pick, at, tab, over}
 use Rattle.answer.specs.declared.Outcome.{Outcome}
 use Rattle.answer.specs.Refusals.{afterwards}
-use Rattle.tag.specs.declared.Sizes.{Sizes}
+use Rattle.sizes.specs.declared.Sizes.{Sizes}
 use Rattle.archive.specs.Layout.{placeCount}
 use Rattle.archive.specs.Calls.{Call, encode, lose, repair, repairSum, answerFor}
 

@@ -7,8 +7,8 @@ use lib.ListN.{length}
 use Rattle.answer.specs.declared.Outcome.the-variants.{Done}
 use Rattle.answer.specs.Numbers.{outcomeNumber}
 use Rattle.bits.specs.Fields.{pack, packed}
-use Rattle.tag.specs.declared.Sizes.{Sizes}
-use Rattle.tag.specs.Sizes.{sizesOutside}
+use Rattle.sizes.specs.declared.Sizes.{Sizes}
+use Rattle.sizes.specs.Sizes.{sizesOutside}
 use Rattle.audit.specs.Challenge.{Challenge, challengeOf, malformedChallenge, challengeAnswer, challengeOut}
 use Rattle.archive.specs.Layout.{archiveLength, sizeFields, badArchive, opened, openAnswer}
 use Rattle.archive.specs.Read.{Bytes}

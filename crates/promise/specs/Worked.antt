@@ -10,8 +10,8 @@ use Rattle.answer.specs.Numbers.{outcomeNumber}
 use Rattle.field.specs.Field.{plus, times}
 use Rattle.field.specs.Inverse.{inverted, invertedOutcome}
 use Rattle.field.specs.declared.Inverted.the-variants.{Element}
-use Rattle.tag.specs.declared.Sizes.{Sizes}
-use Rattle.tag.specs.Vectors.{product}
+use Rattle.sizes.specs.declared.Sizes.{Sizes}
+use Rattle.vector.specs.Vectors.{product}
 use Rattle.mask.specs.Masks.{auxiliary, mask, maskSum}
 use Rattle.mask.specs.Response.{responseBytes, sumIn, tagIn}
 use Rattle.audit.specs.Challenge.{Challenge, challengeAnswer, challengeOut}

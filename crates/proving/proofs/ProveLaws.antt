@@ -15,8 +15,8 @@ use Rattle.answer.specs.declared.Refusal.the-variants.{Length, BadArchive, NoSu
 use Rattle.answer.specs.Refusals.{differs}
 use Rattle.answer.proofs.RefusalLaws.{refused, passed}
 use Rattle.bits.specs.Fields.{fieldAt}
-use Rattle.tag.specs.declared.Sizes.{Sizes}
-use Rattle.tag.specs.Vectors.{added}
+use Rattle.sizes.specs.declared.Sizes.{Sizes}
+use Rattle.vector.specs.Vectors.{added}
 use Rattle.audit.specs.Challenge.{Challenge, challengeBits, challengeOf, malformedChallenge}
 use Rattle.audit.specs.Verdict.{notThere}
 use Rattle.audit.proofs.ReadLaws.{readable}

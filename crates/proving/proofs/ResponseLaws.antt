@@ -8,8 +8,8 @@ use lib.Seq.{getD-set-same, getD-set-other}
 use Rattle.lists.specs.Lists.{at, put}
 use Rattle.lists.proofs.PutLaws.{length-put, put-below, put-at}
 use Rattle.field.specs.Field.{plus}
-use Rattle.tag.specs.Vectors.{added}
-use Rattle.tag.proofs.AddedLaws.{length-added, added-at, added-below}
+use Rattle.vector.specs.Vectors.{added}
+use Rattle.vector.proofs.AddedLaws.{length-added, added-at, added-below}
 use Rattle.mask.specs.Masks.{maskRow, maskCoefficient, mask, maskSum}
 use Rattle.mask.specs.Response.{responseLength, responseHead, responseBytes}
 use Rattle.mask.proofs.ResponseLaws.{is-response}

@@ -8,8 +8,8 @@ use native.Mathlib.Omega.{arith}
 use native.Mathlib.Decide.{ℕ-discrete}
 use Rattle.lists.specs.Lists.{at, over}
 use Rattle.lists.proofs.OverLaws.{over-below, over-within, over-above}
-use Rattle.tag.specs.declared.Sizes.{Sizes}
-use Rattle.tag.specs.Vectors.{mixed}
+use Rattle.sizes.specs.declared.Sizes.{Sizes}
+use Rattle.vector.specs.Vectors.{mixed}
 use Rattle.linear.specs.Elimination.{Matrix, Independent, Vanishing}
 use Rattle.linear.proofs.FactLaws.{last-combined}
 use Rattle.linear.proofs.SameLaws.{independent-same}

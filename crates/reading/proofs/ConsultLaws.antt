@@ -7,9 +7,9 @@ use native.Mathlib.Omega.{arith}
 use lib.ListN.{length, set}
 use lib.Seq.{getD-set-same, getD-set-other}
 use Rattle.lists.specs.Lists.{at}
-use Rattle.tag.specs.declared.Sizes.{Sizes}
-use Rattle.tag.specs.Sizes.{sizesOutside}
-use Rattle.tag.proofs.SizeLaws.{ranged}
+use Rattle.sizes.specs.declared.Sizes.{Sizes}
+use Rattle.sizes.specs.Sizes.{sizesOutside}
+use Rattle.sizes.proofs.SizeLaws.{ranged}
 use Rattle.linear.specs.Elimination.{Matrix, Reduces}
 use Rattle.linear.proofs.SameLaws.{reduces-same}
 use Rattle.archive.specs.Layout.{placeCount, markAt}

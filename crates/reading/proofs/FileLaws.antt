@@ -12,10 +12,10 @@ use Rattle.lists.proofs.PutLaws.{length-flat, flat-at, grid-all}
 use Rattle.answer.specs.declared.Outcome.the-variants.{Done}
 use Rattle.answer.specs.declared.Refusal.the-variants.{Unreadable}
 use Rattle.answer.proofs.RefusalLaws.{passed, differs-same}
-use Rattle.tag.specs.declared.Sizes.{Sizes}
-use Rattle.tag.specs.Vectors.{product, mixed}
-use Rattle.tag.proofs.SizeLaws.{Ranged}
-use Rattle.tag.proofs.VectorLaws.{mixed-lt, product-keys}
+use Rattle.sizes.specs.declared.Sizes.{Sizes}
+use Rattle.vector.specs.Vectors.{product, mixed}
+use Rattle.sizes.proofs.SizeLaws.{Ranged}
+use Rattle.vector.proofs.VectorLaws.{mixed-lt, product-keys}
 use Rattle.linear.specs.Elimination.{Matrix, Reduces}
 use Rattle.archive.specs.Layout.{sizesOf, byteIn, badArchive}
 use Rattle.archive.specs.Blocks.{fileLength}

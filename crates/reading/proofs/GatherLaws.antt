@@ -11,8 +11,8 @@ use Rattle.field.specs.Field.{plus, sum, times}
 use Rattle.field.proofs.SumLaws.{sum-none, sum-last, sum-more}
 use Rattle.field.proofs.TimesLaws.{times-zero}
 use Rattle.bits.specs.Fields.{bit}
-use Rattle.tag.specs.declared.Sizes.{Sizes}
-use Rattle.tag.specs.Vectors.{mixed}
+use Rattle.sizes.specs.declared.Sizes.{Sizes}
+use Rattle.vector.specs.Vectors.{mixed}
 use Rattle.archive.specs.Read.{howMany, rowIn, Combined}
 use Rattle.archive.proofs.InventoryLaws.{howMany-none, howMany-split}
 use Rattle.archive.proofs.ListingLaws.{howMany-more}

@@ -9,8 +9,8 @@ use borrow.Author.Tests.{lt-ltb}
 use Rattle.lists.specs.Lists.{at}
 use Rattle.lists.proofs.TabLaws.{order}
 use Rattle.bits.specs.Fields.{bit}
-use Rattle.tag.specs.declared.Sizes.{Sizes}
-use Rattle.tag.specs.Vectors.{product, mixed}
+use Rattle.sizes.specs.declared.Sizes.{Sizes}
+use Rattle.vector.specs.Vectors.{product, mixed}
 use Rattle.linear.specs.Elimination.{Matrix, Orthogonal, Reduces}
 use Rattle.linear.proofs.SameLaws.{spans}
 use Rattle.archive.specs.Layout.{placeCount, markAt, byteIn}

@@ -5,9 +5,9 @@ use mathlib.Core.Bool.{false}
 use mathlib.Core.List.{List}
 use native.Mathlib.Omega.{arith}
 use Rattle.lists.specs.Lists.{at}
-use Rattle.tag.specs.declared.Sizes.{Sizes}
-use Rattle.tag.specs.Sizes.{sizesOutside}
-use Rattle.tag.proofs.SizeLaws.{ranged}
+use Rattle.sizes.specs.declared.Sizes.{Sizes}
+use Rattle.sizes.specs.Sizes.{sizesOutside}
+use Rattle.sizes.proofs.SizeLaws.{ranged}
 use Rattle.linear.specs.declared.rows.Row.{Row}
 use Rattle.linear.specs.Rows.{kept}
 use Rattle.linear.proofs.KeptLaws.{kept-same}

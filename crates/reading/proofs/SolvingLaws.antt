@@ -8,11 +8,11 @@ use native.Mathlib.Omega.{arith}
 use lib.ListN.{length}
 use Rattle.lists.specs.Lists.{at}
 use Rattle.field.specs.Field.{times}
-use Rattle.tag.specs.declared.Sizes.{Sizes}
-use Rattle.tag.specs.Sizes.{sizesOutside}
-use Rattle.tag.specs.Vectors.{mixed, added}
-use Rattle.tag.proofs.SizeLaws.{Ranged, ranged}
-use Rattle.tag.proofs.AddedLaws.{mixed-more}
+use Rattle.sizes.specs.declared.Sizes.{Sizes}
+use Rattle.sizes.specs.Sizes.{sizesOutside}
+use Rattle.vector.specs.Vectors.{mixed, added}
+use Rattle.sizes.proofs.SizeLaws.{Ranged, ranged}
+use Rattle.vector.proofs.AddedLaws.{mixed-more}
 use Rattle.archive.specs.Layout.{placeCount, recordStart, byteIn, archiveLength}
 use Rattle.archive.specs.Blocks.{fileLength}
 use Rattle.archive.proofs.SizeLaws.{record-fits}

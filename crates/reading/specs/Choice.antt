@@ -5,7 +5,7 @@ use mathlib.Core.Logic.{_⊎_}
 use mathlib.Core.Bool.{Bool, true, false}
 use mathlib.Core.List.{List}
 use Rattle.lists.specs.Lists.{at}
-use Rattle.tag.specs.declared.Sizes.{Sizes}
+use Rattle.sizes.specs.declared.Sizes.{Sizes}
 use Rattle.linear.specs.Elimination.{Independent}
 use Rattle.archive.specs.Layout.{placeCount, markAt}
 use Rattle.archive.specs.Read.{howMany, rowIn, Takes}

@@ -4,7 +4,7 @@ ghost use mathlib.Core.Bool.{false};
 ghost use Prim.Native.Nat.{ℕ, _+_, _<_, _≤_};
 ghost use lib.ListN.{length};
 ghost use Rattle.lists.specs.Lists.{at};
-ghost use Rattle.tag.specs.Sizes.{sizesOutside};
+ghost use Rattle.sizes.specs.Sizes.{sizesOutside};
 ghost use Rattle.linear.specs.Rows.{kept};
 ghost use Rattle.linear.specs.Elimination.{cells};
 ghost use Rattle.archive.specs.Layout.{placeCount, archiveLength, sizesOf, badArchive};
@@ -12,7 +12,7 @@ ghost use Rattle.archive.specs.Read.{rowIn};
 ghost use Rattle.reading.specs.Choice.{Choice, Complete};
 use crate::Chosen;
 use linear::Row;
-use tag::Sizes;
+use sizes::Sizes;
 
 // The row of place number k.
 fn row_at(archive: &[u8], z: Sizes, k: usize) -> Row

@@ -5,12 +5,12 @@ ghost use Prim.Native.Nat.{ℕ, _+_, _-_, _<_, _≤_};
 ghost use lib.ListN.{length};
 ghost use Rattle.lists.specs.Lists.{at, grid};
 ghost use Rattle.field.specs.Tables.{PowerTable, LogTable};
-ghost use Rattle.tag.specs.Sizes.{sizesOutside};
-ghost use Rattle.tag.specs.Vectors.{mixed, added};
+ghost use Rattle.sizes.specs.Sizes.{sizesOutside};
+ghost use Rattle.vector.specs.Vectors.{mixed, added};
 ghost use Rattle.linear.specs.Elimination.{cells};
 ghost use Rattle.archive.specs.Layout.{placeCount, archiveLength, byteIn};
 ghost use Rattle.archive.specs.Blocks.{fileLength};
-use tag::Sizes;
+use sizes::Sizes;
 
 // To the n - 2 bytes from `from` on, the data of m places is added, each times its coefficient.
 fn add_places(
@@ -29,7 +29,7 @@ fn add_places(
     let len = z.n - 2;
     for t in 0..z.m {
         let start = archive::record_start(z, lists::widen(places[t]));
-        tag::add_multiple(
+        vector::add_multiple(
             powers,
             logs,
             coefficients[t],

@@ -7,7 +7,7 @@ ghost use Rattle.answer.specs.Refusals.{afterwards};
 ghost use Rattle.field.specs.Field.{times};
 ghost use Rattle.field.specs.Inverse.{inverted, invertedOutcome, invertedValue};
 ghost use Rattle.keystream.specs.Block.{blockAnswer, blockOut};
-ghost use Rattle.tag.specs.KeyVector.{vectorAnswer, vectorOut};
+ghost use Rattle.tag.specs.Vector.{vectorAnswer, vectorOut};
 ghost use Rattle.mask.specs.Operations.{setupAnswer, setupOut, unmaskAnswer, unmaskOut};
 ghost use Rattle.audit.specs.Challenge.{challengeFor, challengeAnswer, challengeOut};
 ghost use Rattle.audit.specs.Verdict.{judgementNumber, verdictOf};

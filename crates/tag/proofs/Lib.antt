@@ -1,5 +1,3 @@
-pub mod VectorLaws
+pub mod TagLaws
 pub mod StreamLaws
-pub mod VectorOpLaws
-pub mod AddedLaws
-pub mod SizeLaws
+pub mod VectorAnswerLaws

@@ -1,17 +1,11 @@
--- Document 01, "Key vector, tag, mask": F1, the key vector and tags; the operation Vector.
+-- Document 01, "Key vector, tag, mask": F1, the key vector and tags.
 use Prim.Native.Nat.{ℕ, _+_, _-_}
 use mathlib.Core.Path.{_≡_}
-use mathlib.Core.List.{List, [], _∷_}
-use lib.ListN.{length}
+use mathlib.Core.List.{List, _∷_}
 use lib.Dec.{ltb}
-use Rattle.lists.specs.Lists.{pick, tab, anyOf}
-use Rattle.answer.specs.declared.Outcome.{Outcome}
-use Rattle.answer.specs.declared.Outcome.the-variants.{Done}
-use Rattle.answer.specs.declared.Refusal.the-variants.{Size, Length}
-use Rattle.answer.specs.Refusals.{refuse, afterwards, differs}
+use Rattle.lists.specs.Lists.{pick}
 use Rattle.keystream.specs.Draws.{byteAt}
-use Rattle.tag.specs.Sizes.{nOutside, mOutside}
-use Rattle.tag.specs.Vectors.{product, mixed}
+use Rattle.vector.specs.Vectors.{product, mixed}
 
 -- "F1(k, id, i): byte i−1 of the stream with nonce 01 00 00 00 id"
 unfoldable pub F1 : List ℕ → List ℕ → ℕ → ℕ
@@ -30,14 +24,3 @@ abbrev pub TagsCombine : Type 0
 TagsCombine =
     (len count : ℕ) (coefficients : ℕ → ℕ) (blocks : ℕ → ℕ → ℕ) (vector : ℕ → ℕ) (p : ℕ)
     → withTag len vector (mixed count coefficients blocks) p ≡ mixed count coefficients (λ i. withTag len vector (blocks i)) p
-
--- ---- Vector: "1, a size outside its range (Vector only); 2, a buffer of wrong length"
-
-unfoldable pub vectorAnswer : List ℕ → List ℕ → ℕ → ℕ → List ℕ → Outcome
-vectorAnswer tagKey id n m out =
-    refuse (anyOf (nOutside n ∷ mOutside m ∷ [])) Size
-    (refuse (anyOf (differs (length tagKey) 32 ∷ differs (length id) 8 ∷ differs (length out) (n + m) ∷ [])) Length
-    Done)
-
-unfoldable pub vectorOut : List ℕ → List ℕ → ℕ → ℕ → List ℕ → List ℕ
-vectorOut tagKey id n m out = afterwards (vectorAnswer tagKey id n m out) out (tab (n + m) (keyVector tagKey id))

@@ -1,3 +1,2 @@
-pub mod Sizes
-pub mod Vectors
 pub mod KeyVector
+pub mod Vector

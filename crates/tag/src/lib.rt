@@ -1,38 +1,17 @@
-// Key vectors and tags (NC-Audit): the sizes of an archive, F1, and the tag of a block.
-mod products;
-
-pub use products::add_multiple;
-pub use products::combine;
-pub use products::product_drawn;
-pub use products::product_of;
+// Key vectors and tags (NC-Audit): F1, and the tag of a block.
 ghost use mathlib.Core.Path.{_≡_};
 ghost use mathlib.Core.List.{_∷_};
+ghost use Prim.Native.Nat.{_+_, _≤_};
 ghost use lib.ListN.{length};
-ghost use Rattle.lists.specs.Lists.{tab};
+ghost use Rattle.lists.specs.Lists.{at, tab};
+ghost use Rattle.field.specs.Tables.{PowerTable, LogTable};
 ghost use Rattle.keystream.specs.Draws.{drawn, after};
-ghost use Rattle.tag.specs.Sizes.{sizesOutside};
-ghost use Rattle.tag.specs.KeyVector.{TagsCombine, vectorAnswer, vectorOut};
+ghost use Rattle.vector.specs.Vectors.{product};
+ghost use Rattle.tag.specs.KeyVector.{TagsCombine};
+ghost use Rattle.tag.specs.Vector.{vectorAnswer, vectorOut};
 use answer::Outcome;
 use answer::Refusal;
 use keystream::Stream;
-
-// n, m, the places of a node and the nodes. Document 01: n, m, M (places a box), N (boxes).
-pub struct Sizes {
-    pub n: usize,
-    pub m: usize,
-    pub places: usize,
-    pub nodes: usize,
-}
-
-// Whether a size is outside its range.
-pub fn sizes_outside(z: Sizes) -> bool
-    ensures { λ r. ⌜ r ≡ sizesOutside z ⌝ }
-{
-    answer::outside(3, 1024, z.n)
-        | answer::outside(1, 16, z.m)
-        | answer::outside(1, 8, z.places)
-        | answer::outside(1, 6, z.nodes)
-}
 
 // A key by value.
 pub fn key_array(s: &[u8]) -> [u8; 32]
@@ -65,6 +44,29 @@ pub fn id_nonce(a: u8, b: u8, c: u8, d: u8, id: &[u8]) -> [u8; 12]
         id[6],
         id[7],
     ]
+}
+
+// The product of len bytes, from `first` on, and as many bytes of a stream.
+pub fn product_drawn(
+    powers: &[u8; 510],
+    logs: &[u8; 256],
+    u: &[u8],
+    first: usize,
+    len: usize,
+    s: Stream,
+) -> u8
+    requires { ⌜ PowerTable (now powers) × LogTable (now logs) × (first + len ≤ length (now u)) ⌝ }
+    ensures { λ r. ⌜ r ≡ product len (λ e. at (now (u .entry)) (first + e)) (λ e. drawn (after e s) .byte) ⌝ }
+{
+    let mut total = 0u8;
+    let mut t = s;
+    for e in 0..len {
+        let d = t.next();
+        total = total ^ field::product(powers, logs, u[first + e], d.byte);
+        let next = d.stream;
+        t = next;
+    }
+    total
 }
 
 // Fills out with the next bytes of a stream.

@@ -2,7 +2,7 @@ use borrow.Author.Needs.{needs}
 use Prim.Native.Nat.{ℕ}
 use mathlib.Core.Path.{ap, _∙_}
 use Rattle.lists.specs.Lists.{at}
-use Rattle.tag.specs.Vectors.{product}
+use Rattle.vector.specs.Vectors.{product}
 use Rattle.loops.proofs.loops_product.Statement.{statement}
 use Rattle.loops.proofs.loops_product.Tie as tie
 

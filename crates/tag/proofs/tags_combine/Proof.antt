@@ -1,4 +1,4 @@
-use Rattle.tag.proofs.VectorLaws.{tags-combine}
+use Rattle.tag.proofs.TagLaws.{tags-combine}
 use Rattle.tag.proofs.tags_combine.Statement.{statement}
 use Rattle.tag.proofs.tags_combine.Tie as tie
 

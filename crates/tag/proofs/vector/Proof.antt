@@ -1,5 +1,5 @@
 use borrow.Author.Needs.{needs}
-use Rattle.tag.proofs.VectorOpLaws.{vector-lengths, vector-written, vector-kept}
+use Rattle.tag.proofs.VectorAnswerLaws.{vector-lengths, vector-written, vector-kept}
 use Rattle.tag.proofs.vector.Statement.{statement}
 use Rattle.tag.proofs.vector.Tie as tie
 

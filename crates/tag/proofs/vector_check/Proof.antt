@@ -4,7 +4,7 @@ use mathlib.Core.Bool.{_||_}
 use native.Mathlib.Omega.{arith}
 use Rattle.lists.proofs.AnyLaws.{or-false, any-two, any-three}
 use Rattle.answer.proofs.RefusalLaws.{refused, passed, inside}
-use Rattle.tag.specs.KeyVector.{vectorAnswer}
+use Rattle.tag.specs.Vector.{vectorAnswer}
 use Rattle.tag.proofs.vector_check.Statement.{statement}
 use Rattle.tag.proofs.vector_check.Tie as tie
 

@@ -3,7 +3,7 @@ use Prim.Native.Nat.{_+_, _*_}
 use mathlib.Core.Path.{ap}
 use native.Mathlib.Nat.{mul-le-mul}
 use native.Mathlib.Omega.{arith}
-use Rattle.tag.proofs.SizeLaws.{ranged}
+use Rattle.sizes.proofs.SizeLaws.{ranged}
 use Rattle.archive.proofs.SizeLaws.{count-low}
 use Rattle.archive.proofs.layout.archive_length.Statement.{statement}
 use Rattle.archive.proofs.layout.archive_length.Tie as tie

@@ -1,6 +1,6 @@
 use native.Mathlib.Omega.{arith}
 use mathlib.Core.Path.{refl}
-use Rattle.tag.proofs.SizeLaws.{ranged}
+use Rattle.sizes.proofs.SizeLaws.{ranged}
 use Rattle.archive.proofs.layout.record_length.Statement.{statement}
 use Rattle.archive.proofs.layout.record_length.Tie as tie
 

@@ -4,7 +4,7 @@ use Prim.Native.Nat.{_≤_, _-_}
 use mathlib.Core.Path.{_≡_, sym, ap, _∙_}
 use mathlib.Core.Logic.{⊎-elim}
 use native.Mathlib.Omega.{arith}
-use Rattle.tag.specs.declared.Sizes.{Sizes}
+use Rattle.sizes.specs.declared.Sizes.{Sizes}
 use Rattle.archive.specs.Layout.{placeCount, sizesOf}
 use Rattle.archive.proofs.SizeLaws.{count-low}
 use Rattle.archive.proofs.GoodLaws.{good-sizes, good-length}

@@ -1,7 +1,7 @@
 use borrow.Author.Needs.{needs}
 use Prim.Native.Nat.{_-_}
 use native.Mathlib.Omega.{arith}
-use Rattle.tag.proofs.SizeLaws.{ranged}
+use Rattle.sizes.proofs.SizeLaws.{ranged}
 use Rattle.audit.proofs.JudgeLaws.{length-part, parts}
 use Rattle.audit.proofs.judge.agrees.Statement.{statement}
 use Rattle.audit.proofs.judge.agrees.Tie as tie

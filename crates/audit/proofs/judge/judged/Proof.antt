@@ -1,7 +1,7 @@
 use borrow.Author.Needs.{needs}
 use mathlib.Core.Bool.{true, false}
 use native.Mathlib.Omega.{arith}
-use Rattle.tag.proofs.SizeLaws.{ranged}
+use Rattle.sizes.proofs.SizeLaws.{ranged}
 use Rattle.audit.proofs.JudgeLaws.{verdict-tells, verdict-judged}
 use Rattle.audit.proofs.judge.judged.Statement.{statement}
 use Rattle.audit.proofs.judge.judged.Tie as tie

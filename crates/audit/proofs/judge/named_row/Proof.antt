@@ -1,6 +1,6 @@
 use borrow.Author.Needs.{needs}
 use native.Mathlib.Omega.{arith}
-use Rattle.tag.proofs.SizeLaws.{ranged}
+use Rattle.sizes.proofs.SizeLaws.{ranged}
 use Rattle.audit.proofs.NamedLaws.{vectors-there}
 use Rattle.audit.proofs.JudgeLaws.{row-named}
 use Rattle.audit.proofs.judge.named_row.Statement.{statement}

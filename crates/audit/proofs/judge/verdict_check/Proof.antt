@@ -9,7 +9,7 @@ use Rattle.lists.specs.Lists.{at}
 use Rattle.lists.proofs.AnyLaws.{or-false, any-four}
 use Rattle.answer.specs.Refusals.{differs}
 use Rattle.answer.proofs.RefusalLaws.{refused, passed, same, differs-same, differs-other}
-use Rattle.tag.proofs.SizeLaws.{ranged}
+use Rattle.sizes.proofs.SizeLaws.{ranged}
 use Rattle.mask.specs.Response.{responseHead}
 use Rattle.audit.specs.Verdict.{verdictFor}
 use Rattle.audit.proofs.judge.verdict_check.Statement.{statement}

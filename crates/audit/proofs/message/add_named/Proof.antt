@@ -3,8 +3,8 @@ use Prim.Native.Nat.{_≤_, _-_}
 use mathlib.Core.Path.{_≡_, refl}
 use native.Mathlib.Omega.{arith}
 use lib.ListN.{length}
-use Rattle.tag.specs.Vectors.{added}
-use Rattle.tag.proofs.AddedLaws.{mixed-none}
+use Rattle.vector.specs.Vectors.{added}
+use Rattle.vector.proofs.AddedLaws.{mixed-none}
 use Rattle.audit.specs.Challenge.{challengeOf}
 use Rattle.audit.proofs.ReadLaws.{readable}
 use Rattle.audit.proofs.NamedLaws.{firstNamed, item-there, item-more}

@@ -2,7 +2,7 @@ use borrow.Author.Needs.{needs}
 use mathlib.Core.Path.{refl}
 use native.Mathlib.Omega.{arith}
 use lib.ListN.{length-set}
-use Rattle.tag.proofs.SizeLaws.{not-sizes-outside}
+use Rattle.sizes.proofs.SizeLaws.{not-sizes-outside}
 use Rattle.coding.proofs.EncodeLaws.{encodable, place-filled}
 use Rattle.coding.proofs.encoding.fill_place.Statement.{statement}
 use Rattle.coding.proofs.encoding.fill_place.Tie as tie

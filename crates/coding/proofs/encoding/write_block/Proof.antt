@@ -4,7 +4,7 @@ use mathlib.Core.Path.{_≡_, sym}
 use native.Mathlib.Omega.{arith}
 use lib.ListN.{length}
 use mir.Syntax.{w8}
-use Rattle.tag.proofs.SizeLaws.{ranged}
+use Rattle.sizes.proofs.SizeLaws.{ranged}
 use Rattle.coding.proofs.EncodeLaws.{block-written}
 use Rattle.coding.proofs.encoding.write_block.Statement.{statement}
 use Rattle.coding.proofs.encoding.write_block.Tie as tie

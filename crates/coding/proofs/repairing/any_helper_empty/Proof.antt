@@ -9,7 +9,7 @@ use native.Mathlib.Omega.{arith}
 use lib.ListN.{length}
 use Rattle.lists.specs.Lists.{at, anyBelow}
 use Rattle.lists.proofs.AnyLaws.{any-some, any-none, any-below}
-use Rattle.tag.specs.declared.Sizes.{Sizes}
+use Rattle.sizes.specs.declared.Sizes.{Sizes}
 use Rattle.archive.specs.Layout.{filledIn}
 use Rattle.coding.proofs.repairing.any_helper_empty.Statement.{statement}
 use Rattle.coding.proofs.repairing.any_helper_empty.Tie as tie

@@ -6,7 +6,7 @@ use mathlib.Core.Bool.{Bool, true, false, not, Bool·beq}
 use native.Mathlib.Omega.{arith}
 use Rattle.lists.specs.Lists.{pick}
 use Rattle.lists.proofs.AnyLaws.{any-some, any-none}
-use Rattle.tag.proofs.SizeLaws.{ranged}
+use Rattle.sizes.proofs.SizeLaws.{ranged}
 use Rattle.archive.specs.Layout.{markAt}
 use Rattle.coding.proofs.RepairLaws.{number-mark}
 use Rattle.coding.proofs.repairing.any_place.Statement.{statement}

@@ -5,8 +5,8 @@ use native.Mathlib.Omega.{arith}
 use lib.ListN.{length}
 use Rattle.lists.specs.Lists.{grid}
 use Rattle.lists.proofs.PutLaws.{grid-none}
-use Rattle.tag.proofs.SizeLaws.{not-sizes-outside}
-use Rattle.tag.proofs.AddedLaws.{row-made}
+use Rattle.sizes.proofs.SizeLaws.{not-sizes-outside}
+use Rattle.vector.proofs.AddedLaws.{row-made}
 use Rattle.archive.specs.Calls.{repairByte}
 use Rattle.archive.proofs.GoodLaws.{good-length}
 use Rattle.archive.proofs.CallLaws.{read-sizes}

@@ -6,7 +6,7 @@ use native.Mathlib.Omega.{arith}
 use lib.Dec.{leb}
 use Rattle.lists.proofs.AnyLaws.{or-false}
 use Rattle.answer.proofs.RefusalLaws.{refused}
-use Rattle.tag.proofs.SizeLaws.{not-sizes-outside}
+use Rattle.sizes.proofs.SizeLaws.{not-sizes-outside}
 use Rattle.archive.specs.Calls.{archiveAnswer}
 use Rattle.archive.proofs.GoodLaws.{good-length}
 use Rattle.archive.proofs.CallLaws.{read-sizes, read-length, answered}

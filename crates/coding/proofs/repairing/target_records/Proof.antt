@@ -6,9 +6,9 @@ use native.Mathlib.Omega.{arith}
 use lib.ListN.{length}
 use Rattle.lists.specs.Lists.{at, grid}
 use Rattle.lists.proofs.PutLaws.{grid-none}
-use Rattle.tag.specs.Vectors.{mixed}
-use Rattle.tag.proofs.SizeLaws.{ranged}
-use Rattle.tag.proofs.AddedLaws.{row-made}
+use Rattle.vector.specs.Vectors.{mixed}
+use Rattle.sizes.proofs.SizeLaws.{ranged}
+use Rattle.vector.proofs.AddedLaws.{row-made}
 use Rattle.archive.specs.Layout.{recordStart}
 use Rattle.coding.proofs.RepairLaws.{number-mark, record-in, records-in, record-from, record-made}
 use Rattle.coding.proofs.repairing.target_records.Statement.{statement}

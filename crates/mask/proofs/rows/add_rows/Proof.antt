@@ -7,8 +7,8 @@ use Rattle.lists.specs.Lists.{at}
 use Rattle.field.specs.Field.{times}
 use Rattle.keystream.specs.Draws.{drawn, after}
 use Rattle.keystream.proofs.DrawLaws.{after-none, after-more}
-use Rattle.tag.specs.Vectors.{mixed, added}
-use Rattle.tag.proofs.AddedLaws.{mixed-none, mixed-more}
+use Rattle.vector.specs.Vectors.{mixed, added}
+use Rattle.vector.proofs.AddedLaws.{mixed-none, mixed-more}
 use Rattle.mask.specs.Masks.{maskRow, mask}
 use Rattle.mask.proofs.rows.add_rows.Statement.{statement}
 use Rattle.mask.proofs.rows.add_rows.Tie as tie

@@ -6,8 +6,8 @@ use native.Mathlib.Omega.{arith}
 use lib.ListN.{length, take, length-set}
 use Rattle.lists.specs.Lists.{at, tab}
 use Rattle.lists.proofs.TabLaws.{tab-none, tab-more, tab-all}
-use Rattle.tag.specs.Vectors.{product}
-use Rattle.tag.proofs.VectorLaws.{product-same}
+use Rattle.vector.specs.Vectors.{product}
+use Rattle.vector.proofs.VectorLaws.{product-same}
 use Rattle.mask.specs.Masks.{maskRow, auxiliary}
 use Rattle.mask.proofs.rows.auxiliary_into.Statement.{statement}
 use Rattle.mask.proofs.rows.auxiliary_into.Tie as tie

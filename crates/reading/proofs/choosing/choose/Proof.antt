@@ -4,7 +4,7 @@ use Prim.Native.Nat.{_≤_, _-_}
 use mathlib.Core.Path.{_≡_, refl}
 use mathlib.Core.Logic.{inl, inr}
 use native.Mathlib.Omega.{arith}
-use Rattle.tag.proofs.SizeLaws.{not-sizes-outside}
+use Rattle.sizes.proofs.SizeLaws.{not-sizes-outside}
 use Rattle.archive.specs.Layout.{placeCount}
 use Rattle.archive.proofs.SizeLaws.{count-low}
 use Rattle.archive.proofs.CallLaws.{read-sizes, read-length}

@@ -3,7 +3,7 @@ use borrow.Author.Tests.{not-true, not-false}
 use Prim.Native.Nat.{ℕ}
 use mathlib.Core.Path.{sym, _∙_}
 use native.Mathlib.Omega.{arith}
-use Rattle.tag.proofs.SizeLaws.{ranged}
+use Rattle.sizes.proofs.SizeLaws.{ranged}
 use Rattle.linear.specs.Elimination.{cells}
 use Rattle.archive.specs.Layout.{markAt}
 use Rattle.archive.proofs.InventoryLaws.{howMany-most}

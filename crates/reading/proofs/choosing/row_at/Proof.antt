@@ -1,5 +1,5 @@
 use native.Mathlib.Omega.{arith}
-use Rattle.tag.proofs.SizeLaws.{ranged}
+use Rattle.sizes.proofs.SizeLaws.{ranged}
 use Rattle.archive.proofs.SizeLaws.{record-fits}
 use Rattle.reading.proofs.RowLaws.{place-low, row-kept}
 use Rattle.reading.proofs.choosing.row_at.Statement.{statement}

@@ -6,7 +6,7 @@ use mathlib.Core.List.{List, []}
 use native.Mathlib.Omega.{arith}
 use lib.ListN.{length, length-set}
 use Rattle.lists.specs.Lists.{at}
-use Rattle.tag.proofs.SizeLaws.{ranged}
+use Rattle.sizes.proofs.SizeLaws.{ranged}
 use Rattle.linear.specs.Elimination.{cells}
 use Rattle.linear.proofs.KeptLaws.{kept-at}
 use Rattle.linear.proofs.ArrayLaws.{stored}

@@ -4,9 +4,9 @@ use mathlib.Core.Path.{_≡_, refl}
 use native.Mathlib.Omega.{arith}
 use lib.ListN.{length}
 use Rattle.lists.specs.Lists.{at}
-use Rattle.tag.specs.Vectors.{mixed, added}
-use Rattle.tag.proofs.SizeLaws.{ranged}
-use Rattle.tag.proofs.AddedLaws.{mixed-none}
+use Rattle.vector.specs.Vectors.{mixed, added}
+use Rattle.sizes.proofs.SizeLaws.{ranged}
+use Rattle.vector.proofs.AddedLaws.{mixed-none}
 use Rattle.archive.specs.Layout.{byteIn}
 use Rattle.archive.proofs.SizeLaws.{count-low}
 use Rattle.reading.proofs.SolvingLaws.{data-fits, place-added}

@@ -5,9 +5,9 @@ use native.Mathlib.Omega.{arith}
 use lib.ListN.{length}
 use Rattle.lists.specs.Lists.{at, grid}
 use Rattle.lists.proofs.PutLaws.{grid-none}
-use Rattle.tag.specs.Vectors.{mixed}
-use Rattle.tag.proofs.SizeLaws.{ranged}
-use Rattle.tag.proofs.AddedLaws.{row-made}
+use Rattle.vector.specs.Vectors.{mixed}
+use Rattle.sizes.proofs.SizeLaws.{ranged}
+use Rattle.vector.proofs.AddedLaws.{row-made}
 use Rattle.linear.specs.Elimination.{cells}
 use Rattle.archive.specs.Layout.{byteIn}
 use Rattle.reading.proofs.SolvingLaws.{row-fits, row-low}

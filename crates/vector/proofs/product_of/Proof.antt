@@ -4,9 +4,9 @@ use mathlib.Core.Path.{_≡_}
 use native.Mathlib.Omega.{arith}
 use Rattle.lists.specs.Lists.{at}
 use Rattle.field.proofs.SumLaws.{sum-none, sum-more, sum-all}
-use Rattle.tag.specs.Vectors.{product}
-use Rattle.tag.proofs.products.product_of.Statement.{statement}
-use Rattle.tag.proofs.products.product_of.Tie as tie
+use Rattle.vector.specs.Vectors.{product}
+use Rattle.vector.proofs.product_of.Statement.{statement}
+use Rattle.vector.proofs.product_of.Tie as tie
 
 abbrev Inv-loop : tie.InvT-loop
 Inv-loop powers logs u v len total₀ e₀ total e = (e ≤ len) × (total ≡ product e (at u) (at v))

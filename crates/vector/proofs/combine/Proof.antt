@@ -4,10 +4,10 @@ use mathlib.Core.Path.{_≡_, refl}
 use native.Mathlib.Omega.{arith}
 use lib.ListN.{length}
 use Rattle.lists.specs.Lists.{at}
-use Rattle.tag.specs.Vectors.{mixed, added}
-use Rattle.tag.proofs.AddedLaws.{mixed-none, mixed-more, coefficient-in, vector-in}
-use Rattle.tag.proofs.products.combine.Statement.{statement}
-use Rattle.tag.proofs.products.combine.Tie as tie
+use Rattle.vector.specs.Vectors.{mixed, added}
+use Rattle.vector.proofs.AddedLaws.{mixed-none, mixed-more, coefficient-in, vector-in}
+use Rattle.vector.proofs.combine.Statement.{statement}
+use Rattle.vector.proofs.combine.Tie as tie
 
 abbrev Inv-loop : tie.InvT-loop
 Inv-loop powers logs count c first step u start out₀ from len i₀ out i =

@@ -11,7 +11,8 @@ use Rattle.answer.specs.declared.Refusal.{Refusal}
 use Rattle.answer.proofs.RefusalLaws.{accepted, same, after-done, after-refused}
 use Rattle.keystream.specs.declared.stream.Stream.{Stream}
 use Rattle.keystream.specs.Draws.{fresh, drawn, after}
-use Rattle.tag.specs.KeyVector.{vectorAnswer, vectorOut, keyVector}
+use Rattle.tag.specs.Vector.{vectorAnswer, vectorOut}
+use Rattle.tag.specs.KeyVector.{keyVector}
 use Rattle.tag.proofs.StreamLaws.{vector-drawn}
 
 module _ (key id : List ℕ) (n m : ℕ) (out : List ℕ) {o : Outcome} (answer : o ≡ vectorAnswer key id n m out) where

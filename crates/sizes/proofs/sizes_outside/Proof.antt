@@ -2,9 +2,9 @@ use borrow.Author.Needs.{needs}
 use mathlib.Core.Path.{ap₂, _∙_}
 use mathlib.Core.Bool.{_||_}
 use Rattle.lists.proofs.AnyLaws.{any-four}
-use Rattle.tag.specs.Sizes.{sizesOutside}
-use Rattle.tag.proofs.sizes_outside.Statement.{statement}
-use Rattle.tag.proofs.sizes_outside.Tie as tie
+use Rattle.sizes.specs.Sizes.{sizesOutside}
+use Rattle.sizes.proofs.sizes_outside.Statement.{statement}
+use Rattle.sizes.proofs.sizes_outside.Tie as tie
 
 returns : tie.Need-returns
 unfolding sizesOutside

@@ -6,10 +6,10 @@ use Rattle.lists.specs.Lists.{at}
 use Rattle.field.specs.Field.{times}
 use Rattle.field.proofs.SumLaws.{sum-none, sum-more, sum-all}
 use Rattle.keystream.specs.Draws.{drawn, after}
-use Rattle.tag.specs.Vectors.{product}
+use Rattle.vector.specs.Vectors.{product}
 use Rattle.keystream.proofs.DrawLaws.{after-none, after-more}
-use Rattle.tag.proofs.products.product_drawn.Statement.{statement}
-use Rattle.tag.proofs.products.product_drawn.Tie as tie
+use Rattle.tag.proofs.product_drawn.Statement.{statement}
+use Rattle.tag.proofs.product_drawn.Tie as tie
 
 abbrev Inv-loop : tie.InvT-loop
 Inv-loop powers logs u first len total₀ t₀ e₀ total t e =

@@ -5,8 +5,8 @@ use mathlib.Core.Bool.{false}
 use Rattle.lists.specs.Lists.{anyOf}
 use Rattle.lists.proofs.AnyLaws.{any-first, any-rest}
 use Rattle.answer.proofs.RefusalLaws.{inside, not-outside}
-use Rattle.tag.specs.declared.Sizes.{Sizes}
-use Rattle.tag.specs.Sizes.{sizesOutside}
+use Rattle.sizes.specs.declared.Sizes.{Sizes}
+use Rattle.sizes.specs.Sizes.{sizesOutside}
 
 pub record Ranged (z : Sizes) : Type 0 where
   pub n-low : 3 ≤ z .n

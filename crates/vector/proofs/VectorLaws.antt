@@ -1,7 +1,6 @@
--- Combinations are linear in their coefficients, and the tag of a combination is the combination of the tags. Assumes nothing.
+-- Combinations are linear in their coefficients, products in both vectors. Assumes nothing.
 use Prim.Native.Nat.{ℕ, _+_, _-_, _<_, _≤_}
-use mathlib.Core.Path.{_≡_, refl, sym, ap, _∙_}
-use mathlib.Core.Bool.{Bool, true, false}
+use mathlib.Core.Path.{_≡_, sym, ap, _∙_}
 use native.Mathlib.Omega.{arith}
 use lib.Dec.{ltb}
 use lib.Bits.{xor-zero-r}
@@ -10,8 +9,7 @@ use Rattle.lists.specs.Lists.{pick}
 use Rattle.field.specs.Field.{plus, sum, times}
 use Rattle.field.proofs.SumLaws.{sum-same, sum-zero, sum-swap, sum-split, sum-plus, sum-lt}
 use Rattle.field.proofs.TimesLaws.{times-assoc, times-xor-left, times-xor-right, zero-times, times-lt, times-sum, sum-times}
-use Rattle.tag.specs.Vectors.{product, mixed}
-use Rattle.tag.specs.KeyVector.{withTag}
+use Rattle.vector.specs.Vectors.{product, mixed}
 
 -- ---- combinations
 
@@ -93,14 +91,3 @@ product-cut a len u k h =
     sum-zero (len - a) (λ i. f (a + i)) (λ i l. rw (le-ltb (a + i) a (omega arith)) (zero-times (k (a + i)))) in
     ap (λ (x : ℕ). sum x f) q ∙ sum-split a (len - a) f ∙ ap (plus (sum a f)) past ∙ xor-zero-r (sum a f)
     ∙ sum-same a f _ (λ i l. rw (lt-ltb i a l))
-
--- "Combining blocks combines their tags by the same coefficients"
-pub tags-combine : (len count : ℕ) (r : ℕ → ℕ) (v : ℕ → ℕ → ℕ) (k : ℕ → ℕ) (p : ℕ)
-    → withTag len k (mixed count r v) p ≡ mixed count r (λ i. withTag len k (v i)) p
-unfolding withTag mixed
-tags-combine len count r v k p = go (ltb p len)
-  where
-    go : (t : Bool) → pick t (sum count (λ i. times (r i) (v i p))) (product len (mixed count r v) k)
-        ≡ sum count (λ i. times (r i) (pick t (v i p) (product len (v i) k)))
-    go true = refl
-    go false = product-mixed len count r v k

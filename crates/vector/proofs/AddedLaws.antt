@@ -12,7 +12,7 @@ use Rattle.lists.proofs.PutLaws.{length-put, put-below, put-above, put-at, put-
 use Rattle.field.specs.Field.{plus, sum, times}
 use Rattle.field.proofs.SumLaws.{sum-none, sum-more}
 use Rattle.field.proofs.XorLaws.{xor-assoc}
-use Rattle.tag.specs.Vectors.{mixed, added}
+use Rattle.vector.specs.Vectors.{mixed, added}
 
 -- ---- one vector
 

@@ -5,10 +5,10 @@ use native.Mathlib.Omega.{arith}
 use lib.ListN.{length}
 use Rattle.lists.specs.Lists.{at}
 use Rattle.field.specs.Field.{times, power}
-use Rattle.tag.specs.Vectors.{added}
-use Rattle.tag.proofs.AddedLaws.{added-none, added-step}
-use Rattle.tag.proofs.products.add_raised.Statement.{statement}
-use Rattle.tag.proofs.products.add_raised.Tie as tie
+use Rattle.vector.specs.Vectors.{added}
+use Rattle.vector.proofs.AddedLaws.{added-none, added-step}
+use Rattle.vector.proofs.add_raised.Statement.{statement}
+use Rattle.vector.proofs.add_raised.Tie as tie
 
 abbrev Inv-loop : tie.InvT-loop
 Inv-loop powers logs k u first out₀ from len e₀ out e =

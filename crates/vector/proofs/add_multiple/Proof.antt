@@ -5,9 +5,9 @@ use native.Mathlib.Omega.{arith}
 use Rattle.lists.specs.Lists.{at}
 use Rattle.field.specs.Field.{times}
 use Rattle.field.proofs.TimesLaws.{zero-times}
-use Rattle.tag.proofs.AddedLaws.{added-same, added-zero}
-use Rattle.tag.proofs.products.add_multiple.Statement.{statement}
-use Rattle.tag.proofs.products.add_multiple.Tie as tie
+use Rattle.vector.proofs.AddedLaws.{added-same, added-zero}
+use Rattle.vector.proofs.add_multiple.Statement.{statement}
+use Rattle.vector.proofs.add_multiple.Tie as tie
 
 returns : tie.Need-returns
 returns c =

@@ -1,13 +1,11 @@
-// Products and combinations of lent bytes, over lent tables.
+// Vectors over the field: products and combinations of lent bytes, over lent tables.
 ghost use mathlib.Core.Path.{_≡_};
 ghost use Prim.Native.Nat.{_+_, _-_, _*_, _<_, _≤_};
 ghost use lib.ListN.{length};
 ghost use Rattle.lists.specs.Lists.{at};
 ghost use Rattle.field.specs.Field.{times, power};
 ghost use Rattle.field.specs.Tables.{PowerTable, LogTable};
-ghost use Rattle.keystream.specs.Draws.{drawn, after};
-ghost use Rattle.tag.specs.Vectors.{product, mixed, added};
-use keystream::Stream;
+ghost use Rattle.vector.specs.Vectors.{product, mixed, added};
 
 // The product of the first len bytes of two vectors.
 pub fn product_of(powers: &[u8; 510], logs: &[u8; 256], u: &[u8], v: &[u8], len: usize) -> u8
@@ -17,29 +15,6 @@ pub fn product_of(powers: &[u8; 510], logs: &[u8; 256], u: &[u8], v: &[u8], len:
     let mut total = 0u8;
     for e in 0..len {
         total = total ^ field::product(powers, logs, u[e], v[e]);
-    }
-    total
-}
-
-// The product of len bytes, from `first` on, and as many bytes of a stream.
-pub fn product_drawn(
-    powers: &[u8; 510],
-    logs: &[u8; 256],
-    u: &[u8],
-    first: usize,
-    len: usize,
-    s: Stream,
-) -> u8
-    requires { ⌜ PowerTable (now powers) × LogTable (now logs) × (first + len ≤ length (now u)) ⌝ }
-    ensures { λ r. ⌜ r ≡ product len (λ e. at (now (u .entry)) (first + e)) (λ e. drawn (after e s) .byte) ⌝ }
-{
-    let mut total = 0u8;
-    let mut t = s;
-    for e in 0..len {
-        let d = t.next();
-        total = total ^ field::product(powers, logs, u[first + e], d.byte);
-        let next = d.stream;
-        t = next;
     }
     total
 }

@@ -4,7 +4,7 @@ use mathlib.Core.Bool.{Bool}
 use mathlib.Core.List.{[], _∷_}
 use Rattle.lists.specs.Lists.{anyOf}
 use Rattle.answer.specs.Refusals.{outside}
-use Rattle.tag.specs.declared.Sizes.{Sizes}
+use Rattle.sizes.specs.declared.Sizes.{Sizes}
 
 abbrev pub nOutside : ℕ → Bool
 nOutside n = outside 3 1024 n
