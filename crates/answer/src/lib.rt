@@ -2,6 +2,7 @@
 ghost use mathlib.Core.Path.{_≡_};
 ghost use Rattle.answer.specs.Numbers.{refusalNumber, outcomeNumber};
 ghost use Rattle.answer.specs.Refusals as Refusals;
+ghost use Rattle.answer.specs.Counted.{countedNumber};
 
 // The ten refusals, in the order of document 01's numbers, from 1.
 pub enum Refusal {
@@ -64,5 +65,21 @@ pub fn number(o: Outcome) -> u8
     match o {
         Outcome::Done => 0,
         Outcome::Refused(r) => refusal_number(r),
+    }
+}
+
+// What Read and Inventory answer: a number (of filled places consulted, or of filled places), or a refusal.
+pub enum Counted {
+    Count(usize),
+    Refused(Refusal),
+}
+
+// 0 for a count, else the refusal's number.
+pub fn counted_number(c: Counted) -> u8
+    ensures { λ n. ⌜ n ≡ countedNumber c ⌝ }
+{
+    match c {
+        Counted::Count(k) => 0,
+        Counted::Refused(r) => refusal_number(r),
     }
 }

@@ -5,11 +5,10 @@ use mathlib.Core.List.{List}
 use native.Mathlib.Omega.{arith}
 use lib.Dec.{eqb}
 use borrow.Author.Tests.{lt-ltb, le-ltb, eq-eqb, ne-eqb}
-use Rattle.lists.specs.Lists.{at}
+use Rattle.lists.specs.Lists.{at, bit}
 use Rattle.field.specs.Field.{times}
 use Rattle.field.proofs.SumLaws.{sum-one}
 use Rattle.field.proofs.TimesLaws.{times-zero, times-comm, one-times}
-use Rattle.bits.specs.Fields.{bit}
 use Rattle.sizes.specs.declared.Sizes.{Sizes}
 use Rattle.vector.specs.Vectors.{mixed}
 use Rattle.archive.specs.Blocks.{source, coded}

@@ -5,15 +5,16 @@ use mathlib.Core.Bool.{Bool, false}
 use mathlib.Core.List.{List}
 use native.Mathlib.Omega.{arith}
 use Rattle.answer.proofs.RefusalLaws.{accepted}
-use Rattle.archive.specs.declared.Counted.{Counted}
-use Rattle.archive.specs.declared.Counted.the-variants.{Count, Refused}
-use Rattle.archive.specs.Counted.{countedValue}
+use Rattle.answer.specs.declared.Counted.{Counted}
+use Rattle.answer.specs.declared.Counted.the-variants.{Count, Refused}
+use Rattle.answer.specs.Counted.{countedValue}
 use Rattle.archive.specs.Layout.{placeCount, sizesOf, markAt, badArchive}
-use Rattle.archive.specs.Read.{howMany, ReadAllows}
+use Rattle.lists.specs.Lists.{howMany}
+use Rattle.archive.specs.Read.{ReadAllows}
 use Rattle.archive.specs.Inventory.{InventoryAllows}
 use Rattle.archive.proofs.GoodLaws.{good-sizes}
 use Rattle.archive.proofs.SizeLaws.{count-low}
-use Rattle.archive.proofs.InventoryLaws.{howMany-most}
+use Rattle.lists.proofs.CountLaws.{howMany-most}
 
 few : (s : List ℕ) (p : ℕ → Bool) → badArchive s ≡ false → howMany (placeCount (sizesOf s)) p < 256
 few s p good = omega (arith, howMany-most (placeCount (sizesOf s)) p, count-low _ (good-sizes s good))

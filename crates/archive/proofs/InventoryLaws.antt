@@ -1,40 +1,19 @@
 -- How often a code stands in a list that Inventory may write. Assumes nothing.
-use Prim.Native.Nat.{ℕ, zero, suc, _+_, _-_, _*_, _/_, _%_, _<_, _≤_}
-use mathlib.Core.Path.{_≡_, refl, ap, ap₂, _∙_}
-use mathlib.Core.Bool.{Bool, false}
+use Prim.Native.Nat.{ℕ, _+_, _-_, _*_, _/_, _%_, _<_, _≤_}
+use mathlib.Core.Path.{_≡_, ap, ap₂, _∙_}
+use mathlib.Core.Bool.{Bool}
 use mathlib.Core.List.{List}
 use mathlib.Core.Logic.{⊎-elim, _≢_}
-use native.Mathlib.Nat.{add-zero, add-suc}
 use native.Mathlib.Omega.{arith}
 use lib.Dec.{eqb, ltb}
 use lib.ListN.{length}
 use borrow.Author.Tests.{lt-ltb, le-ltb, ne-eqb}
-use Rattle.lists.specs.Lists.{pick, at}
+use Rattle.lists.specs.Lists.{pick, at, bit, howMany}
 use Rattle.lists.proofs.TabLaws.{order}
-use Rattle.bits.specs.Fields.{bit}
-use Rattle.bits.proofs.NumberLaws.{bit-low}
+use Rattle.lists.proofs.CountLaws.{howMany-same, howMany-most, howMany-none, howMany-split}
 use Rattle.sizes.specs.declared.Sizes.{Sizes}
 use Rattle.archive.specs.Layout.{placeCount}
-use Rattle.archive.specs.Read.{howMany}
 use Rattle.archive.specs.Inventory.{Listed}
-use Rattle.archive.proofs.ReadLaws.{howMany-same}
-
--- ---- counting
-
-pub howMany-most : (n : ℕ) (f : ℕ → Bool) → howMany n f ≤ n
-unfolding howMany
-howMany-most zero f = omega arith
-howMany-most (suc n) f = omega (arith, howMany-most n f, bit-low (f n))
-
-pub howMany-none : (n : ℕ) (f : ℕ → Bool) → ((i : ℕ) → i < n → f i ≡ false) → howMany n f ≡ 0
-unfolding howMany
-howMany-none zero f h = refl
-howMany-none (suc n) f h = rw (howMany-none n f (λ i l. h i (omega arith)), h n (omega arith))
-
-pub howMany-split : (a b : ℕ) (f : ℕ → Bool) → howMany (a + b) f ≡ howMany a f + howMany b (λ i. f (a + i))
-unfolding howMany
-howMany-split a zero f = simp add-zero
-howMany-split a (suc b) f = rw (add-suc, howMany-split a b f) (omega arith)
 
 -- ---- the list
 

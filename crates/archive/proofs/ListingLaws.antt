@@ -1,29 +1,25 @@
 -- The turns of the loop that lists the filled places. Assumes nothing.
 use Prim.Native.Nat.{ℕ, _+_, _*_, _/_, _%_, _<_, _≤_}
-use mathlib.Core.Path.{_≡_, refl, sym, ap, ap₂, _∙_}
+use mathlib.Core.Path.{_≡_, sym, ap, ap₂, _∙_}
 use mathlib.Core.Bool.{Bool, true, false}
 use mathlib.Core.List.{List}
 use mathlib.Core.Logic.{⊎-elim}
 use native.Mathlib.Decide.{ℕ-discrete}
 use native.Mathlib.Nat.{div-add-mod'}
-use native.Mathlib.Numerals.{add-one}
 use native.Mathlib.Omega.{arith}
 use lib.Arith.{digits-div, digits-mod}
 use lib.Dec.{eqb, ltb}
 use lib.ListN.{length, set, length-set}
 use lib.Seq.{getD-set-same, getD-set-other}
 use borrow.Author.Tests.{lt-ltb, le-ltb, eq-eqb, ne-eqb}
-use Rattle.lists.specs.Lists.{pick, at, tab}
+use Rattle.lists.specs.Lists.{pick, at, tab, bit, howMany}
 use Rattle.lists.proofs.TabLaws.{order, length-tab, tab-at}
-use Rattle.bits.specs.Fields.{bit}
 use Rattle.sizes.specs.declared.Sizes.{Sizes}
 use Rattle.sizes.proofs.SizeLaws.{Ranged}
 use Rattle.archive.specs.Layout.{placeCount, placeNumber, markAt, filledIn}
-use Rattle.archive.specs.Read.{howMany}
 use Rattle.archive.specs.Inventory.{Listed}
 use Rattle.archive.proofs.SizeLaws.{number-low, node-of, place-of}
-use Rattle.archive.proofs.ReadLaws.{howMany-same}
-use Rattle.archive.proofs.InventoryLaws.{howMany-most}
+use Rattle.lists.proofs.CountLaws.{howMany-same, howMany-most, howMany-zero, howMany-more}
 
 -- the number of places, of the sizes that were read
 pub count-read : {z z′ : Sizes} → z ≡ z′ → placeCount z ≡ placeCount z′
@@ -32,14 +28,6 @@ count-read e = ap (λ (z : Sizes). z .nodes * z .places) e
 -- the node and the place of place number k, by the places that were read
 pub parts-low : (z : Sizes) → Ranged z → (k : ℕ) {places : ℕ} → places ≡ z .places → k < placeCount z → (k / places < 6) × (k % places < 8)
 parts-low z R k e low = rw e (omega (arith, node-of z R k low, R .nodes-high), omega (arith, place-of z R k, R .places-high))
-
-pub howMany-more : (n : ℕ) (p : ℕ → Bool) → howMany (n + 1) p ≡ howMany n p + bit (p n)
-unfolding howMany
-howMany-more n p = rw add-one
-
-pub howMany-zero : (p : ℕ → Bool) → howMany 0 p ≡ 0
-unfolding howMany
-howMany-zero p = refl
 
 -- what is written for place number k
 abbrev code : ℕ → ℕ → ℕ

@@ -5,10 +5,10 @@ use mathlib.Core.Bool.{Bool}
 use mathlib.Core.List.{List}
 use native.Mathlib.Omega.{arith}
 use lib.Dec.{eqb}
-use Rattle.lists.specs.Lists.{at, put, over}
+use Rattle.lists.specs.Lists.{at, put, over, bit}
 use Rattle.lists.proofs.PutLaws.{put-above}
 use Rattle.lists.proofs.OverLaws.{over-within, over-below, over-above, over-same}
-use Rattle.bits.specs.Fields.{bit, number, packed, bitAt, fieldAt}
+use Rattle.bits.specs.Fields.{number, packed, bitAt, fieldAt}
 use Rattle.bits.proofs.NumberLaws.{bit-back, number-low, number-same}
 use Rattle.bits.proofs.PackLaws.{packed-at}
 use Rattle.archive.specs.Layout.{markAt, withMarks}

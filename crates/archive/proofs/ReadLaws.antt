@@ -10,7 +10,7 @@ use native.Mathlib.Omega.{arith}
 use lib.Bits.{bitXor, xor-zero-r, xor-self, xor-lt}
 use lib.ListN.{length}
 use lib.Seq.{ext-getD}
-use Rattle.lists.specs.Lists.{pick, at}
+use Rattle.lists.specs.Lists.{pick, at, Bytes}
 use Rattle.field.specs.Field.{plus, times}
 use Rattle.field.proofs.XorLaws.{xor-cancel}
 use Rattle.field.proofs.SumLaws.{sum-zero}
@@ -20,14 +20,9 @@ use Rattle.vector.specs.Vectors.{product}
 use Rattle.vector.proofs.VectorLaws.{mixed-vectors, product-same, product-right, product-zero, product-mixed}
 use Rattle.archive.specs.Layout.{placeCount, markAt, byteIn}
 use Rattle.archive.specs.Blocks.{fileLength}
-use Rattle.archive.specs.Read.{Bytes, howMany, rowIn, Blind, Combined, Takes, Solved}
+use Rattle.archive.specs.Read.{rowIn, Blind, Combined, Takes, Solved}
 
 -- ---- the same for two that agree on the places there are
-
-pub howMany-same : (n : ℕ) (f g : ℕ → Bool) → ((i : ℕ) → i < n → f i ≡ g i) → howMany n f ≡ howMany n g
-unfolding howMany
-howMany-same zero f g h = refl
-howMany-same (suc n) f g h = rw (howMany-same n f g (λ i l. h i (omega arith)), h n (omega arith))
 
 pub blind-same : (z : Sizes) (f g : ℕ → Bool) (r r′ : ℕ → ℕ → ℕ) → ((k : ℕ) → k < placeCount z → f k ≡ g k)
     → ((k i : ℕ) → k < placeCount z → i < z .m → r k i ≡ r′ k i) → Blind z f r → Blind z g r′

@@ -1,6 +1,6 @@
 -- Rows after Repair, on any archive that is not bad. Assumes nothing.
 use Prim.Native.Nat.{ℕ, _+_, _*_, _<_, _≤_}
-use mathlib.Core.Path.{_≡_, sym, ap, _∙_}
+use mathlib.Core.Path.{_≡_, ap, _∙_}
 use mathlib.Core.Bool.{Bool}
 use mathlib.Core.List.{List}
 use native.Mathlib.Nat.{mul-le-mul-right}
@@ -14,7 +14,7 @@ use Rattle.answer.proofs.RefusalLaws.{accepted, after-done}
 use Rattle.sizes.specs.declared.Sizes.{Sizes}
 use Rattle.vector.specs.Vectors.{mixed}
 use Rattle.archive.specs.Layout.{recordLength, placeCount, archiveLength, placeNumber, recordStart, sizesOf, markAt, byteIn, withMarks, stored}
-use Rattle.archive.specs.Calls.{repair, repairByte, targetByte, answerFor, archiveAnswer, effectFor, archiveAfter}
+use Rattle.archive.specs.Calls.{repairByte, targetByte, answerFor, archiveAnswer, effectFor, archiveAfter}
 use Rattle.archive.specs.Repaired.{RepairedRows}
 use Rattle.archive.proofs.GoodLaws.{good-length}
 

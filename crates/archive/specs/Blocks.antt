@@ -2,8 +2,7 @@
 use Prim.Native.Nat.{ℕ, _+_, _-_, _*_}
 use mathlib.Core.List.{List}
 use lib.Dec.{eqb, ltb}
-use Rattle.lists.specs.Lists.{pick, at}
-use Rattle.bits.specs.Fields.{bit}
+use Rattle.lists.specs.Lists.{pick, at, bit}
 use Rattle.sizes.specs.declared.Sizes.{Sizes}
 use Rattle.vector.specs.Vectors.{mixed}
 use Rattle.tag.specs.KeyVector.{withTag}

@@ -5,17 +5,15 @@ use mathlib.Core.Bool.{Bool}
 use mathlib.Core.List.{List}
 use lib.ListN.{length}
 use lib.Dec.{eqb}
-use Rattle.lists.specs.Lists.{at}
+use Rattle.lists.specs.Lists.{at, bit, howMany}
 use Rattle.answer.specs.declared.Outcome.{Outcome}
 use Rattle.answer.specs.declared.Outcome.the-variants.{Done, Refused as RefusedOutcome}
 use Rattle.answer.specs.declared.Refusal.the-variants.{Length, BadArchive}
 use Rattle.answer.specs.Refusals.{refuse, differs}
-use Rattle.bits.specs.Fields.{bit}
 use Rattle.sizes.specs.declared.Sizes.{Sizes}
 use Rattle.archive.specs.Layout.{placeCount, sizesOf, filledIn, badArchive}
-use Rattle.archive.specs.Read.{howMany}
-use Rattle.archive.specs.declared.Counted.{Counted}
-use Rattle.archive.specs.declared.Counted.the-variants.{Count, Refused}
+use Rattle.answer.specs.declared.Counted.{Counted}
+use Rattle.answer.specs.declared.Counted.the-variants.{Count, Refused}
 
 -- the first `count` bytes name every filled place just once, and nothing else; zeros follow
 pub record Listed (z : Sizes) (filled : ℕ → ℕ → Bool) (count : ℕ) (list : List ℕ) : Type 0 where

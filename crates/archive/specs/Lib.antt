@@ -4,5 +4,4 @@ pub mod Calls
 pub mod Prove
 pub mod Read
 pub mod Inventory
-pub mod Counted
 pub mod Repaired

@@ -13,9 +13,8 @@ use Rattle.answer.specs.Refusals.{refuse, afterwards, differs}
 use Rattle.sizes.specs.declared.Sizes.{Sizes}
 use Rattle.vector.specs.Vectors.{mixed}
 use Rattle.mask.specs.Masks.{maskRow, maskCoefficient, mask, maskSum}
-use Rattle.mask.specs.Response.{responseLength, responseBytes}
-use Rattle.audit.specs.Challenge.{Challenge, challengeOf, malformedChallenge}
-use Rattle.audit.specs.Verdict.{notThere}
+use Rattle.message.specs.Response.{responseLength, responseBytes}
+use Rattle.message.specs.Challenge.{Challenge, challengeOf, malformedChallenge, notThere}
 use Rattle.archive.specs.Layout.{blockLength, placeNumber, sizesOf, idOf, filledIn, byteIn, badArchive}
 
 -- the refusals once the header and the challenge are read

@@ -1,32 +1,22 @@
 -- Read, a relation between the bytes lent, the answer and the bytes afterwards: it leaves free just what document 01 does.
-use Prim.Native.Nat.{ℕ, zero, suc, _+_, _-_, _*_, _<_, _≤_}
+use Prim.Native.Nat.{ℕ, _+_, _-_, _*_, _<_, _≤_}
 use mathlib.Core.Path.{_≡_}
 use mathlib.Core.Logic.{_⊎_, _≢_}
 use mathlib.Core.Bool.{Bool, true, false}
 use mathlib.Core.List.{List}
 use lib.ListN.{length}
 use lib.Dec.{ltb}
-use Rattle.lists.specs.Lists.{pick, at}
+use Rattle.lists.specs.Lists.{pick, at, howMany, Bytes}
 use Rattle.answer.specs.declared.Outcome.{Outcome}
 use Rattle.answer.specs.declared.Outcome.the-variants.{Done, Refused as RefusedOutcome}
 use Rattle.answer.specs.declared.Refusal.the-variants.{Length, BadArchive, Unreadable}
 use Rattle.answer.specs.Refusals.{refuse, differs}
-use Rattle.bits.specs.Fields.{bit}
 use Rattle.sizes.specs.declared.Sizes.{Sizes}
 use Rattle.vector.specs.Vectors.{product, mixed}
 use Rattle.archive.specs.Layout.{placeCount, sizesOf, markAt, byteIn, badArchive}
 use Rattle.archive.specs.Blocks.{fileLength}
-use Rattle.archive.specs.declared.Counted.{Counted}
-use Rattle.archive.specs.declared.Counted.the-variants.{Count, Refused}
-
--- every element is a byte
-abbrev pub Bytes : List ℕ → Type 0
-Bytes xs = (i : ℕ) → i < length xs → at xs i < 256
-
--- how many indices below n pass
-unfoldable pub howMany : ℕ → (ℕ → Bool) → ℕ
-howMany zero p = 0
-howMany (suc n) p = howMany n p + bit (p n)
+use Rattle.answer.specs.declared.Counted.{Counted}
+use Rattle.answer.specs.declared.Counted.the-variants.{Count, Refused}
 
 -- element i of the row of place number k: "A place's row here is the last m elements of its stored block"
 abbrev pub rowIn : Sizes → List ℕ → ℕ → ℕ → ℕ

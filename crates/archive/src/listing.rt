@@ -4,10 +4,10 @@ ghost use mathlib.Core.Bool.{false};
 ghost use lib.ListN.{length};
 ghost use Rattle.archive.specs.Layout.{placeCount, sizesOf, filledIn, badArchive};
 ghost use Rattle.archive.specs.Inventory.{Listed, InventoryAllows};
-use crate::Counted;
 use crate::layout::bad_archive;
 use crate::layout::marked;
 use crate::layout::sizes_in;
+use answer::Counted;
 use answer::Refusal;
 
 // 8 times the node plus the place for each filled place, then zeros; their number.

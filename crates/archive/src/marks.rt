@@ -2,8 +2,8 @@
 ghost use mathlib.Core.Path.{_≡_};
 ghost use Prim.Native.Nat.{_+_, _<_, _≤_};
 ghost use lib.ListN.{length};
-ghost use Rattle.lists.specs.Lists.{at, over};
-ghost use Rattle.bits.specs.Fields.{bit, packed};
+ghost use Rattle.lists.specs.Lists.{at, over, bit};
+ghost use Rattle.bits.specs.Fields.{packed};
 ghost use Rattle.archive.specs.Layout.{markAt, withMarks};
 
 // The mark of place number i, 0 or 1, where those of the `count` places from k on are v.

@@ -28,12 +28,12 @@ use Rattle.vector.proofs.AddedLaws.{added-zeros}
 use Rattle.linear.specs.declared.rows.Row.{Row}
 use Rattle.linear.specs.Rows.{kept}
 use Rattle.linear.proofs.KeptLaws.{row-stored, kept-same, kept-at}
-use Rattle.mask.specs.Response.{responseLength, dataIn, sumIn, tagIn}
+use Rattle.message.specs.Response.{responseLength, dataIn, sumIn, tagIn}
 use Rattle.mask.proofs.RowLaws.{vector-filled}
-use Rattle.audit.specs.Challenge.{Challenge, challengeOf, malformedChallenge}
-use Rattle.audit.specs.Verdict.{notThere, verdictFor, namedRow, appended, accepts, judgement, verdictOf}
+use Rattle.message.specs.Challenge.{Challenge, challengeOf, malformedChallenge, notThere}
+use Rattle.audit.specs.Verdict.{verdictFor, namedRow, appended, accepts, judgement, verdictOf}
 use Rattle.audit.specs.declared.Judgement.the-variants.{Accepted, Rejected, Refused}
-use Rattle.audit.proofs.NamedLaws.{firstNamed}
+use Rattle.message.proofs.NamedLaws.{firstNamed}
 
 -- ---- the product with the elements of a vector
 

@@ -1,7 +1,2 @@
-pub mod ChallengeLaws
-pub mod VerdictLaws
-pub mod RuleLaws
-pub mod MessageLaws
-pub mod ReadLaws
-pub mod NamedLaws
 pub mod JudgeLaws
+pub mod VerdictLaws

@@ -14,7 +14,7 @@ use Rattle.field.proofs.XorLaws.{xor-undo, xor-swap}
 use Rattle.sizes.specs.declared.Sizes.{Sizes}
 use Rattle.vector.specs.Vectors.{product}
 use Rattle.vector.proofs.VectorLaws.{product-same, product-left, product-cut}
-use Rattle.mask.specs.Response.{dataIn, sumIn, tagIn}
+use Rattle.message.specs.Response.{dataIn, sumIn, tagIn}
 use Rattle.audit.specs.Verdict.{appended, accepts}
 
 module _ (z : Sizes) (vector row : ℕ → ℕ) (other sent : List ℕ) where

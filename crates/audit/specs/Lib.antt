@@ -1,2 +1,1 @@
-pub mod Challenge
 pub mod Verdict

@@ -4,8 +4,8 @@ use Prim.Native.Nat.{ℕ, _+_, _-_, _*_}
 use mathlib.Core.Bool.{Bool}
 use mathlib.Core.List.{List, [], _∷_}
 use lib.ListN.{length}
-use lib.Dec.{eqb, ltb, leb}
-use Rattle.lists.specs.Lists.{pick, at, anyOf, anyBelow}
+use lib.Dec.{eqb, ltb}
+use Rattle.lists.specs.Lists.{pick, at, anyOf}
 use Rattle.answer.specs.declared.Outcome.{Outcome}
 use Rattle.answer.specs.declared.Outcome.the-variants.{Done, Refused as RefusedOutcome}
 use Rattle.answer.specs.declared.Refusal.the-variants.{Size, Length, NoSuchPlace, Malformed}
@@ -16,8 +16,8 @@ use Rattle.sizes.specs.declared.Sizes.{Sizes}
 use Rattle.sizes.specs.Sizes.{sizesOutside}
 use Rattle.vector.specs.Vectors.{product, mixed}
 use Rattle.tag.specs.KeyVector.{keyVector}
-use Rattle.mask.specs.Response.{responseLength, responseHead, dataIn, sumIn, tagIn}
-use Rattle.audit.specs.Challenge.{Challenge, challengeOf, malformedChallenge}
+use Rattle.message.specs.Response.{responseLength, responseHead, dataIn, sumIn, tagIn}
+use Rattle.message.specs.Challenge.{Challenge, challengeOf, malformedChallenge, notThere}
 use Rattle.audit.specs.declared.Judgement.{Judgement}
 use Rattle.audit.specs.declared.Judgement.the-variants.{Accepted, Rejected, Refused}
 
@@ -26,10 +26,6 @@ abbrev pub judgementNumber : Judgement → ℕ
 judgementNumber Accepted = 0
 judgementNumber Rejected = 255
 judgementNumber (Refused r) = refusalNumber r
-
--- "the box not below N or a place not below M"
-abbrev pub notThere : Sizes → Challenge → Bool
-notThere z c = anyOf (leb (z .nodes) (c .node) ∷ anyBelow (length (c .places)) (λ j. leb (z .places) (at (c .places) j)) ∷ [])
 
 -- the refusals, once the challenge is read
 unfoldable pub verdictFor : Sizes → List ℕ → List ℕ → List ℕ → Challenge → Bool → List ℕ → Outcome

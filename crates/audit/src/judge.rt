@@ -8,17 +8,17 @@ ghost use Rattle.answer.specs.Refusals.{Passed};
 ghost use Rattle.field.specs.Tables.{PowerTable, LogTable};
 ghost use Rattle.sizes.specs.Sizes.{sizesOutside};
 ghost use Rattle.linear.specs.Rows.{kept};
-ghost use Rattle.mask.specs.Response.{responseLength};
-ghost use Rattle.audit.specs.Challenge.{challengeOf, malformedChallenge};
-ghost use Rattle.audit.specs.Verdict.{judgementNumber, notThere, verdictFor, namedRow, accepts, verdictOf};
+ghost use Rattle.message.specs.Response.{responseLength};
+ghost use Rattle.message.specs.Challenge.{challengeOf, malformedChallenge, notThere};
+ghost use Rattle.audit.specs.Verdict.{judgementNumber, verdictFor, namedRow, accepts, verdictOf};
 use crate::Judgement;
-use crate::message::add_named;
-use crate::message::malformed;
-use crate::message::node_in;
-use crate::message::not_there;
 use answer::Outcome;
 use answer::Refusal;
 use linear::Row;
+use message::add_named;
+use message::malformed;
+use message::node_in;
+use message::not_there;
 use sizes::Sizes;
 
 // The number of a judgement.
@@ -59,7 +59,7 @@ fn verdict_check(
     if not_there(z, message) {
         return Outcome::Refused(Refusal::NoSuchPlace);
     }
-    if response[0] != mask::head_byte(node_in(message)) {
+    if response[0] != message::head_byte(node_in(message)) {
         return Outcome::Refused(Refusal::Malformed);
     }
     Outcome::Done

@@ -7,13 +7,11 @@ use native.Mathlib.Numerals.{add-one}
 use native.Mathlib.Omega.{arith}
 use lib.Dec.{eqb}
 use lib.Pow.{pow-mono}
-use Rattle.bits.specs.Fields.{bit, bitOf, number}
+use Rattle.lists.specs.Lists.{bit}
+use Rattle.lists.proofs.CountLaws.{bit-low}
+use Rattle.bits.specs.Fields.{bitOf, number}
 
 -- one bit as a number
-pub bit-low : (b : Bool) → bit b < 2
-bit-low true = omega arith
-bit-low false = omega arith
-
 pub bit-back : (b : Bool) → eqb (bit b) 1 ≡ b
 bit-back true = refl
 bit-back false = refl

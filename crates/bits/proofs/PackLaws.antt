@@ -9,10 +9,11 @@ use native.Mathlib.Omega.{arith}
 use lib.Dec.{ltb}
 use lib.ListN.{length, List·getD-eq-default}
 use borrow.Author.Tests.{lt-ltb, le-ltb}
-use Rattle.lists.specs.Lists.{pick, at}
+use Rattle.lists.specs.Lists.{pick, at, bit}
 use Rattle.lists.proofs.TabLaws.{order, length-tab, tab-at, is-tab, tab-same}
-use Rattle.bits.specs.Fields.{Field, _wide_, bit, bitOf, bitsOf, widths, number, packed, bytesFor, pack, bitAt, fieldAt}
-use Rattle.bits.proofs.NumberLaws.{bit-low, bit-odd, place-bit, number-same, number-low, number-none, number-more, number-small, number-back}
+use Rattle.bits.specs.Fields.{Field, _wide_, bitOf, bitsOf, widths, number, packed, bytesFor, pack, bitAt, fieldAt}
+use Rattle.lists.proofs.CountLaws.{bit-low}
+use Rattle.bits.proofs.NumberLaws.{bit-odd, place-bit, number-same, number-low, number-none, number-more, number-small, number-back}
 
 -- bytes with given bits
 pub packed-length : (len : ℕ) (bits : ℕ → Bool) → length (packed len bits) ≡ len

@@ -10,10 +10,10 @@ use native.Mathlib.Omega.{arith}
 use lib.ListN.{length, set, length-set}
 use lib.Pow.{split}
 use lib.Seq.{getD-set-same, getD-set-other}
-use Rattle.lists.specs.Lists.{at, over}
+use Rattle.lists.specs.Lists.{at, over, bit}
 use Rattle.lists.proofs.TabLaws.{order, is-tab}
 use Rattle.lists.proofs.OverLaws.{over-in, over-below, over-above}
-use Rattle.bits.specs.Fields.{bit, bitOf, number, packed, bitAt, fieldAt, withField}
+use Rattle.bits.specs.Fields.{bitOf, number, packed, bitAt, fieldAt, withField}
 use Rattle.bits.proofs.NumberLaws.{bit-odd, number-same, number-low, number-other}
 use Rattle.bits.proofs.PackLaws.{packed-length, packed-bit, packed-same, byte-bits, bytes-packed, past-end, field-back}
 

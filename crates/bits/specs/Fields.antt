@@ -1,11 +1,11 @@
 -- Bit-packed fields. Document 01: "Fields are bit-packed, most significant first", "zero bits to a whole byte".
 use Prim.Native.Nat.{ℕ, zero, suc, _+_, _-_, _*_, _/_, _%_, _^_, _<_, _≤_}
 use mathlib.Core.Path.{_≡_}
-use mathlib.Core.Bool.{Bool, true, false}
+use mathlib.Core.Bool.{Bool, false}
 use mathlib.Core.List.{List, [], _∷_, _++_}
 use lib.ListN.{length}
 use lib.Dec.{eqb, ltb}
-use Rattle.lists.specs.Lists.{pick, at, tab, over}
+use Rattle.lists.specs.Lists.{pick, at, tab, over, bit}
 
 -- a field: its width in bits, and its value
 pub record Field : Type 0 where
@@ -31,10 +31,6 @@ bitsOf (f ∷ fs) k = pick (ltb k (f .width)) (bitOf (f .width) (f .value) k) (b
 unfoldable pub widths : List Field → ℕ
 widths [] = 0
 widths (f ∷ fs) = f .width + widths fs
-
-abbrev pub bit : Bool → ℕ
-bit true = 1
-bit false = 0
 
 -- the number whose w bits are f 0, f 1, .., the most significant first
 unfoldable pub number : (ℕ → Bool) → ℕ → ℕ

@@ -2,7 +2,8 @@
 ghost use mathlib.Core.Path.{_≡_};
 ghost use Prim.Native.Nat.{_+_, _-_, _*_, _/_, _%_, _^_, _≤_, _<_};
 ghost use lib.ListN.{length};
-ghost use Rattle.bits.specs.Fields.{bit, bitAt, fieldAt, withField, RoundTrip, Written};
+ghost use Rattle.lists.specs.Lists.{bit};
+ghost use Rattle.bits.specs.Fields.{bitAt, fieldAt, withField, RoundTrip, Written};
 
 // The byte that holds bit `from` + i: the sum itself may be past the last usize.
 fn byte_of(from: usize, i: usize) -> usize

@@ -65,9 +65,9 @@ pub fn changed(at: usize, b: u8) -> [u8; 64] {
 }
 
 // The number that an answer counts; 255 where it is refused.
-pub fn counted(c: archive::Counted) -> usize {
+pub fn counted(c: answer::Counted) -> usize {
     match c {
-        archive::Counted::Count(k) => k,
-        archive::Counted::Refused(_) => 255,
+        answer::Counted::Count(k) => k,
+        answer::Counted::Refused(_) => 255,
     }
 }

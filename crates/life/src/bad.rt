@@ -47,7 +47,7 @@ fn inventory(s: [u8; 64], len: usize) -> u8 {
     let mut lent = [0xa5u8; 64];
     let found = archive::inventory(&s[0..len % 65], &mut lent[0..6]);
     cases::kept(lent);
-    archive::number(found)
+    answer::counted_number(found)
 }
 
 fn prove(s: [u8; 64], len: usize) -> u8 {
@@ -68,7 +68,7 @@ fn read(s: [u8; 64], len: usize) -> u8 {
     let mut lent = [0xa5u8; 64];
     let done = reading::read(&s[0..len % 65], &mut lent[0..2]);
     cases::kept(lent);
-    archive::number(done)
+    answer::counted_number(done)
 }
 
 // Encode, Lose, Repair, Inventory, Prove, Read on the first `len` bytes, below 65, with byte `at` made b.

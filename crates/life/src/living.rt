@@ -87,7 +87,7 @@ fn lived() -> [u8; 54] {
 fn listed(s: [u8; 54]) {
     let mut list = [0xffu8; 6];
     let found = archive::inventory(&s, &mut list);
-    cases::number(b"Inventory", 0, archive::number(found) as u64);
+    cases::number(b"Inventory", 0, answer::counted_number(found) as u64);
     cases::number(b"Inventory's number", 4, counted(found) as u64);
     cases::bytes(b"Inventory's list", &[8, 9, 16, 17, 0, 0], &list);
 }
@@ -109,7 +109,7 @@ fn proved(s: [u8; 54]) {
 fn read(s: [u8; 54]) {
     let mut file = [0u8; 2];
     let done = reading::read(&s, &mut file);
-    cases::number(b"Read", 0, archive::number(done) as u64);
+    cases::number(b"Read", 0, answer::counted_number(done) as u64);
     cases::number(b"Read, places consulted", 3, counted(done) as u64);
     cases::bytes(b"Read's file", &[0x57, 0x01], &file);
 }

@@ -6,7 +6,7 @@ use crate::archives::counted;
 fn inventory(label: &[u8], len: usize) {
     let mut lent = [0xa5u8; 64];
     let found = archive::inventory(&LIVED, &mut lent[0..len % 65]);
-    cases::number(label, 2, archive::number(found) as u64);
+    cases::number(label, 2, answer::counted_number(found) as u64);
     cases::kept(lent);
 }
 
@@ -14,7 +14,7 @@ fn read(label: &[u8], expected: u64, at: usize, b: u8, len: usize) {
     let s = changed(at, b);
     let mut lent = [0xa5u8; 64];
     let done = reading::read(&s[0..54], &mut lent[0..len % 65]);
-    cases::number(label, expected, archive::number(done) as u64);
+    cases::number(label, expected, answer::counted_number(done) as u64);
     cases::kept(lent);
 }
 

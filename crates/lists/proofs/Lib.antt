@@ -1,4 +1,5 @@
 pub mod TabLaws
+pub mod CountLaws
 pub mod PutLaws
 pub mod OverLaws
 pub mod AnyLaws

@@ -1,8 +1,8 @@
 -- Lists of numbers by index: what every layer's definitions are written with.
-use Prim.Native.Nat.{ℕ, zero, suc, _+_, _-_, _*_}
+use Prim.Native.Nat.{ℕ, zero, suc, _+_, _-_, _*_, _<_}
 use mathlib.Core.Bool.{Bool, true, false}
 use mathlib.Core.List.{List, [], _∷_, _++_}
-use lib.ListN.{getD, set}
+use lib.ListN.{length, getD, set}
 use lib.Dec.{ltb}
 
 -- a where the test holds, else b
@@ -49,3 +49,18 @@ anyOf (t ∷ ts) = pick t true (anyOf ts)
 unfoldable pub anyBelow : ℕ → (ℕ → Bool) → Bool
 anyBelow zero p = false
 anyBelow (suc n) p = pick (p n) true (anyBelow n p)
+
+-- ---- counting
+
+abbrev pub bit : Bool → ℕ
+bit true = 1
+bit false = 0
+
+-- how many indices below n pass
+unfoldable pub howMany : ℕ → (ℕ → Bool) → ℕ
+howMany zero p = 0
+howMany (suc n) p = howMany n p + bit (p n)
+
+-- every element is a byte
+abbrev pub Bytes : List ℕ → Type 0
+Bytes xs = (i : ℕ) → i < length xs → at xs i < 256

@@ -1,5 +1,3 @@
 pub mod MaskLaws
-pub mod ResponseLaws
-pub mod UnmaskLaws
 pub mod RowLaws
-pub mod OperationLaws
+pub mod SetupLaws

@@ -1,4 +1,3 @@
 pub mod Masks
-pub mod Response
-pub mod Operations
+pub mod Setup
 pub mod Laws

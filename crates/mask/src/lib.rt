@@ -1,7 +1,5 @@
-// Masks (NC-Audit): F2, F3, auxiliary elements, mask and mask sum; the response that a mask hides a block in.
-mod response;
+// Masks (NC-Audit): F2, F3, auxiliary elements, mask and mask sum; Setup.
 mod rows;
-mod unmasking;
 
 ghost use mathlib.Core.Path.{_≡_};
 ghost use Prim.Native.Nat.{_-_, _≤_};
@@ -10,15 +8,13 @@ ghost use Rattle.lists.specs.Lists.{anyBelow};
 ghost use Rattle.answer.specs.Refusals.{differs};
 ghost use Rattle.tag.specs.KeyVector.{keyVector};
 ghost use Rattle.mask.specs.Masks.{maskRow, auxiliary};
-ghost use Rattle.mask.specs.Operations.{setupAnswer, setupOut};
-ghost use Rattle.mask.specs.Laws.{MaskLaws};
+ghost use Rattle.mask.specs.Setup.{setupAnswer, setupOut};
+ghost use Rattle.mask.specs.Laws.{MaskSums};
 use answer::Outcome;
 use answer::Refusal;
 use keystream::Stream;
-pub use response::head_byte;
 pub use rows::add_mask;
 pub use rows::mask_sum;
-pub use unmasking::unmask;
 
 // Whether one of the first len key elements is not zero.
 fn any_element(key: &[u8], id: &[u8], len: usize) -> bool
@@ -91,7 +87,7 @@ pub fn setup(tag_key: &[u8], mask_key: &[u8], id: &[u8], n: usize, out: &mut [u8
     answer
 }
 
-// Carries the laws of masks: without their proof the crate is not proved.
-pub fn mask_laws()
-    ensures { λ _. ⌜ MaskLaws ⌝ }
+// Carries the law of mask sums: without its proof the crate is not proved.
+pub fn mask_sums()
+    ensures { λ _. ⌜ MaskSums ⌝ }
 {}

@@ -21,13 +21,13 @@ use Rattle.tag.specs.KeyVector.{withTag, keyVector}
 use Rattle.vector.proofs.VectorLaws.{mixed-mixed, mixed-vectors, mixed-lt, product-same, product-left, product-cut}
 use Rattle.tag.proofs.TagLaws.{tags-combine}
 use Rattle.mask.specs.Masks.{maskRow, maskCoefficient, auxiliary, mask, maskSum}
-use Rattle.mask.specs.Response.{responseLength, responseHead, sumIn, tagIn}
+use Rattle.message.specs.Response.{responseLength, responseHead, sumIn, tagIn}
 use Rattle.mask.proofs.MaskLaws.{length-auxiliary, mask-sum}
-use Rattle.mask.proofs.ResponseLaws.{response-length, response-first, response-sum, response-tag, response-data, response-same}
-use Rattle.audit.specs.Challenge.{Challenge, challengeOf, malformedChallenge}
+use Rattle.message.proofs.ResponseLaws.{response-length, response-first, response-sum, response-tag, response-data, response-same}
+use Rattle.message.specs.Challenge.{Challenge, challengeOf, malformedChallenge}
 use Rattle.audit.specs.Verdict.{verdictFor, appended, accepts, judgement, verdictOf, namedRow as givenRow}
 use Rattle.audit.specs.declared.Judgement.the-variants.{Accepted, Rejected}
-use Rattle.audit.proofs.ChallengeLaws.{in-rule, challenge-back, well-formed, asked-even, asked-rule, asked-bytes}
+use Rattle.message.proofs.ChallengeLaws.{in-rule, challenge-back, well-formed, asked-even, asked-rule, asked-bytes}
 use Rattle.audit.proofs.VerdictLaws.{altered}
 use Rattle.archive.specs.Layout.{blockLength, recordLength, filledIn}
 use Rattle.archive.specs.Blocks.{source, coded}

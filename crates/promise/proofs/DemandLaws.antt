@@ -9,7 +9,7 @@ use Rattle.lists.proofs.TabLaws.{length-tab, tab-at}
 use Rattle.lists.proofs.AnyLaws.{any-first, any-rest}
 use Rattle.answer.specs.Refusals.{afterwards}
 use Rattle.answer.proofs.RefusalLaws.{accepted, same}
-use Rattle.mask.specs.Operations.{setupAnswer, setupOut}
+use Rattle.mask.specs.Setup.{setupAnswer, setupOut}
 use Rattle.archive.specs.Layout.{placeNumber, blockLength, openAnswer, openOut}
 use Rattle.archive.specs.Calls.{Call, archiveAnswers, archiveRun}
 use Rattle.archive.specs.Read.{rowIn}

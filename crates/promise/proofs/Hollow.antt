@@ -6,7 +6,7 @@ use mathlib.Core.List.{List, [], _∷_}
 use mathlib.Core.Logic.{⊎-elim}
 use native.Mathlib.Nat.{div-add-mod'}
 use native.Mathlib.Omega.{arith}
-use Rattle.lists.specs.Lists.{tab, over, anyOf}
+use Rattle.lists.specs.Lists.{tab, over, anyOf, howMany}
 use Rattle.answer.specs.declared.Outcome.the-variants.{Done, Refused as RefusedOutcome}
 use Rattle.answer.specs.declared.Refusal.the-variants.{Length, BadArchive, Unreadable}
 use Rattle.answer.specs.Refusals.{refuse, afterwards}
@@ -16,16 +16,16 @@ use Rattle.keystream.specs.Draws.{byteAt}
 use Rattle.bits.specs.Fields.{bitOf, bitsOf, widths, number, packed, pack}
 use Rattle.vector.specs.Vectors.{product, mixed}
 use Rattle.mask.specs.Masks.{F2, maskRow, auxiliary, mask, maskSum}
-use Rattle.mask.specs.Response.{responseBytes, dataIn}
+use Rattle.message.specs.Response.{responseBytes, dataIn}
 use Rattle.audit.specs.Verdict.{namedRow, appended, accepts}
 use Rattle.archive.specs.Layout.{recordLength, placeCount, placeNumber, sizesOf, markAt, byteIn}
 use Rattle.archive.specs.Blocks.{source, coded}
 use Rattle.archive.specs.Calls.{answerFor, archiveAnswer, archiveAfter}
 use Rattle.archive.specs.Prove.{namedByte}
-use Rattle.archive.specs.Read.{howMany, rowIn, Blind, ReadAllows}
+use Rattle.archive.specs.Read.{rowIn, Blind, ReadAllows}
 use Rattle.archive.specs.Inventory.{InventoryAllows}
-use Rattle.archive.specs.declared.Counted.the-variants.{Count, Refused}
-use Rattle.archive.proofs.ReadLaws.{howMany-same}
+use Rattle.answer.specs.declared.Counted.the-variants.{Count, Refused}
+use Rattle.lists.proofs.CountLaws.{howMany-same}
 use Rattle.promise.specs.Table.{Place, empty, Table, allEmpty, isFilled, numbered, written, tableRun}
 use Rattle.promise.specs.Image.{placeRecord}
 use Rattle.promise.specs.Demand3.{setting, Admitted}

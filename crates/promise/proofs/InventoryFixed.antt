@@ -4,10 +4,9 @@ use mathlib.Core.Path.{_≡_, sym, ap, _∙_}
 use mathlib.Core.List.{List}
 use lib.Dec.{eqb}
 use lib.ListN.{length}
-use Rattle.lists.specs.Lists.{at}
+use Rattle.lists.specs.Lists.{at, howMany}
 use Rattle.archive.specs.Layout.{sizesOf, filledIn}
-use Rattle.archive.specs.Read.{howMany}
-use Rattle.archive.specs.declared.Counted.the-variants.{Count, Refused}
+use Rattle.answer.specs.declared.Counted.the-variants.{Count, Refused}
 use Rattle.archive.proofs.InventoryLaws.{often, how-often}
 use Rattle.promise.specs.Companions.{InventoryIsFixed}
 use Rattle.answer.proofs.RefusalLaws.{never-both, same-refusal}

@@ -4,7 +4,7 @@ use mathlib.Core.Path.{_≡_, refl, _∙_}
 use mathlib.Core.Bool.{true}
 use mathlib.Core.List.{[], _∷_}
 use native.Mathlib.Omega.{arith}
-use Rattle.lists.specs.Lists.{at, tab, flat, over, anyOf, anyBelow}
+use Rattle.lists.specs.Lists.{at, tab, flat, over, anyOf, anyBelow, Bytes}
 use Rattle.lists.proofs.TabLaws.{length-tab}
 use Rattle.answer.specs.declared.Outcome.the-variants.{Done, Refused}
 use Rattle.answer.specs.declared.Refusal.the-variants.{Length, NoSuchPlace, PlaceEmpty, PlaceFilled}
@@ -18,13 +18,12 @@ use Rattle.vector.specs.Vectors.{product, mixed}
 use Rattle.tag.specs.KeyVector.{F1, keyVector, withTag}
 use Rattle.tag.specs.Vector.{vectorAnswer, vectorOut}
 use Rattle.mask.specs.Masks.{F2, F3, maskRow, maskCoefficient, auxiliary, mask, maskSum}
-use Rattle.mask.specs.Operations.{setupAnswer, setupOut}
-use Rattle.mask.specs.Response.{responseBytes}
-use Rattle.audit.specs.Challenge.{Challenge, items, challengeBytes, outOfRule, challengeAnswer, challengeOut}
+use Rattle.mask.specs.Setup.{setupAnswer, setupOut}
+use Rattle.message.specs.Response.{responseBytes}
+use Rattle.message.specs.Challenge.{Challenge, items, challengeBytes, outOfRule, challengeAnswer, challengeOut}
 use Rattle.archive.specs.Layout.{archiveOf, openAnswer}
 use Rattle.archive.specs.Blocks.{source, coded, codedRecord}
 use Rattle.archive.specs.Calls.{answerFor}
-use Rattle.archive.specs.Read.{Bytes}
 use Rattle.archive.specs.Prove.{responseFor}
 use Rattle.promise.specs.Table.{allEmpty, isFilled, numbered, repairedRow, written, tableAnswers}
 use Rattle.promise.specs.Image.{image}

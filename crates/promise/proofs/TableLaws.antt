@@ -11,7 +11,7 @@ use lib.Arith.{digits-div, digits-mod}
 use lib.Dec.{eqb, ltb}
 use lib.ListN.{length}
 use borrow.Author.Tests.{lt-ltb, le-ltb, eq-eqb, ne-eqb}
-use Rattle.lists.specs.Lists.{pick, at, over}
+use Rattle.lists.specs.Lists.{pick, at, over, Bytes}
 use Rattle.lists.proofs.TabLaws.{order, length-tab, tab-at}
 use Rattle.lists.proofs.OverLaws.{over-within, over-below, over-above}
 use Rattle.lists.proofs.AnyLaws.{any-first, any-rest}
@@ -24,7 +24,6 @@ use Rattle.field.proofs.TimesLaws.{times-lt}
 use Rattle.sizes.specs.declared.Sizes.{Sizes}
 use Rattle.archive.specs.Layout.{placeCount, placeNumber}
 use Rattle.archive.specs.Calls.{Call, encode, lose, repair, answerFor}
-use Rattle.archive.specs.Read.{Bytes}
 use Rattle.sizes.proofs.SizeLaws.{Ranged}
 use Rattle.archive.proofs.SizeLaws.{number-low, node-of, place-of}
 use Rattle.promise.specs.Table.{Place, empty, filled, Table, element, numbered, tableAnswer, repairedRow, written, tableEffect, tableAfter, tableRun}

@@ -5,18 +5,17 @@ use mathlib.Core.List.{List, [], _∷_}
 use Prim.Native.Nat.{ℕ, zero, suc, _+_, _*_, _/_, _%_, _<_, _≤_}
 use native.Mathlib.Omega.{arith}
 use lib.Dec.{eqb}
-use Rattle.lists.specs.Lists.{at, tab, anyOf, anyBelow}
+use Rattle.lists.specs.Lists.{at, tab, anyOf, anyBelow, bit, Bytes, howMany}
 use Rattle.answer.specs.declared.Outcome.the-variants.{Done}
 use Rattle.answer.specs.Refusals.{refuse, outside}
-use Rattle.bits.specs.Fields.{bit, bitOf, bitsOf, widths, number, packed, pack, bitAt, fieldAt}
+use Rattle.bits.specs.Fields.{bitOf, bitsOf, widths, number, packed, pack, bitAt, fieldAt}
 use Rattle.sizes.specs.declared.Sizes.{Sizes}
 use Rattle.sizes.specs.Sizes.{sizesOutside}
-use Rattle.audit.specs.Challenge.{Challenge, challengeOf, malformedChallenge, challengeAnswer, challengeOut}
-use Rattle.audit.proofs.ChallengeLaws.{in-rule, asked-even, asked-rule, asked-bytes, challenge-back as read-back, well-formed}
+use Rattle.message.specs.Challenge.{Challenge, challengeOf, malformedChallenge, challengeAnswer, challengeOut}
+use Rattle.message.proofs.ChallengeLaws.{in-rule, asked-even, asked-rule, asked-bytes, challenge-back as read-back, well-formed}
 use Rattle.archive.specs.Layout.{sizesOf, markAt, filledIn, badFor, openAnswer}
-use Rattle.archive.specs.Read.{Bytes, howMany}
 use Rattle.archive.specs.Inventory.{inventoryBefore, InventoryFor, InventoryAllows}
-use Rattle.archive.specs.declared.Counted.the-variants.{Count}
+use Rattle.answer.specs.declared.Counted.the-variants.{Count}
 use Rattle.sizes.proofs.SizeLaws.{ranged}
 use Rattle.promise.specs.Worked as W
 use Rattle.promise.specs.Tries.{Tries}

@@ -5,10 +5,10 @@ use mathlib.Core.List.{List}
 use Rattle.answer.specs.declared.Outcome.the-variants.{Done}
 use Rattle.answer.proofs.RefusalLaws.{after-done}
 use Rattle.mask.specs.Masks.{maskRow, maskCoefficient, mask, maskSum}
-use Rattle.mask.specs.Response.{responseBytes}
-use Rattle.mask.proofs.UnmaskLaws.{unmask-gives}
-use Rattle.audit.specs.Challenge.{challengeOf}
-use Rattle.audit.proofs.ReadLaws.{readable}
+use Rattle.message.specs.Response.{responseBytes}
+use Rattle.message.proofs.UnmaskLaws.{unmask-gives}
+use Rattle.message.specs.Challenge.{challengeOf}
+use Rattle.message.proofs.ReadLaws.{readable}
 use Rattle.archive.specs.Layout.{blockLength, sizesOf, idOf}
 use Rattle.archive.specs.Prove.{proveAnswer, responseFor, namedByte, provedFor, proveOut}
 use Rattle.archive.proofs.GoodLaws.{good-sizes, good-id}

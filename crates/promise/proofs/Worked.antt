@@ -8,7 +8,7 @@ use native.Mathlib.Nat.{mod-eq-of-lt}
 use native.Mathlib.Omega.{arith}
 use lib.Bits.{xor-zero-r}
 use lib.Dec.{lit<, lit≤}
-use Rattle.lists.specs.Lists.{at, tab, anyOf, anyBelow}
+use Rattle.lists.specs.Lists.{at, tab, anyOf, anyBelow, howMany}
 use Rattle.answer.specs.Refusals.{refuse, outside, afterwards}
 use Rattle.field.specs.Field.{plus, sum, modulus, xtime, xtimes, times, last, inverseOf}
 use Rattle.field.specs.Inverse.{inverted}
@@ -20,16 +20,16 @@ use Rattle.sizes.specs.Sizes.{sizesOutside}
 use Rattle.vector.specs.Vectors.{product, mixed}
 use Rattle.tag.specs.KeyVector.{withTag}
 use Rattle.mask.specs.Masks.{auxiliary, mask, maskSum}
-use Rattle.mask.specs.Response.{responseBytes, dataIn}
-use Rattle.audit.specs.Challenge.{items, challengeBytes, outOfRule, challengeAnswer, challengeOut}
+use Rattle.message.specs.Response.{responseBytes, dataIn}
+use Rattle.message.specs.Challenge.{items, challengeBytes, outOfRule, challengeAnswer, challengeOut}
 use Rattle.audit.specs.Verdict.{namedRow, appended, accepts}
 use Rattle.archive.specs.Layout.{sizesOf, markAt, byteIn, badFor}
 use Rattle.archive.specs.Blocks.{source, coded, codedRecord}
 use Rattle.archive.specs.Prove.{namedByte}
-use Rattle.archive.specs.Read.{howMany, rowIn, Blind, among, Combined, Solved, readBefore, ReadFor, ReadAllows}
+use Rattle.archive.specs.Read.{rowIn, Blind, among, Combined, Solved, readBefore, ReadFor, ReadAllows}
 use Rattle.answer.specs.declared.Outcome.the-variants.{Done}
 use Rattle.answer.specs.declared.Refusal.the-variants.{Unreadable}
-use Rattle.archive.specs.declared.Counted.the-variants.{Count, Refused}
+use Rattle.answer.specs.declared.Counted.the-variants.{Count, Refused}
 use Rattle.promise.specs.Worked as W
 use Rattle.promise.proofs.Life.{two-bytes}
 

@@ -4,16 +4,16 @@ use mathlib.Core.Path.{_≡_}
 use mathlib.Core.List.{List}
 use lib.ListN.{length}
 use lib.Dec.{eqb}
-use Rattle.lists.specs.Lists.{at, tab}
+use Rattle.lists.specs.Lists.{at, tab, howMany}
 use Rattle.answer.specs.declared.Outcome.the-variants.{Done}
-use Rattle.mask.specs.Operations.{unmaskAnswer, unmaskOut}
-use Rattle.audit.specs.Challenge.{challengeOf}
+use Rattle.message.specs.Unmask.{unmaskAnswer, unmaskOut}
+use Rattle.message.specs.Challenge.{challengeOf}
 use Rattle.archive.specs.Layout.{sizesOf, idOf}
 use Rattle.archive.specs.Prove.{proveAnswer, proveOut, namedByte}
-use Rattle.archive.specs.Read.{howMany, ReadAllows}
+use Rattle.archive.specs.Read.{ReadAllows}
 use Rattle.archive.specs.Inventory.{InventoryAllows}
-use Rattle.archive.specs.declared.Counted.{Counted}
-use Rattle.archive.specs.declared.Counted.the-variants.{Count, Refused}
+use Rattle.answer.specs.declared.Counted.{Counted}
+use Rattle.answer.specs.declared.Counted.the-variants.{Count, Refused}
 
 -- demand 2: "unmasking gives the block that was masked", that is its first n−2 elements: for every archive, auxiliary list, seed and challenge that Prove accepts
 abbrev pub Unmasking : Type 0

@@ -6,14 +6,14 @@ use mathlib.Core.Logic.{_↔_, _≢_}
 use mathlib.Core.Bool.{true}
 use mathlib.Core.List.{List, [], _∷_}
 use lib.ListN.{length}
-use Rattle.lists.specs.Lists.{at, tab, flat}
+use Rattle.lists.specs.Lists.{at, tab, flat, Bytes}
 use Rattle.answer.specs.declared.Outcome.the-variants.{Done}
 use Rattle.field.specs.Field.{plus}
 use Rattle.sizes.specs.declared.Sizes.{Sizes}
 use Rattle.vector.specs.Vectors.{product, mixed}
-use Rattle.mask.specs.Operations.{setupAnswer, setupOut}
-use Rattle.mask.specs.Response.{responseLength, dataIn, sumIn, tagIn}
-use Rattle.audit.specs.Challenge.{Challenge, challengeAnswer, challengeOut}
+use Rattle.mask.specs.Setup.{setupAnswer, setupOut}
+use Rattle.message.specs.Response.{responseLength, dataIn, sumIn, tagIn}
+use Rattle.message.specs.Challenge.{Challenge, challengeAnswer, challengeOut}
 use Rattle.audit.specs.Verdict.{verdictOf}
 use Rattle.audit.specs.declared.Judgement.{Judgement}
 use Rattle.audit.specs.declared.Judgement.the-variants.{Accepted, Rejected}
@@ -21,10 +21,10 @@ use Rattle.archive.specs.Layout.{placeCount, blockLength, placeNumber, markAt, 
 use Rattle.archive.specs.Blocks.{fileLength, paddingLength, coded}
 use Rattle.archive.specs.Calls.{Call, encode, lose, repair, archiveAnswers, archiveRun}
 use Rattle.archive.specs.Prove.{proveAnswer, responseFor, proveOut}
-use Rattle.archive.specs.Read.{Bytes, rowIn, Blind, Enough, ReadAllows}
+use Rattle.archive.specs.Read.{rowIn, Blind, Enough, ReadAllows}
 use Rattle.archive.specs.Inventory.{Listed, InventoryAllows}
-use Rattle.archive.specs.Counted.{countedNumber, countedValue}
-use Rattle.archive.specs.declared.Counted.{Counted}
+use Rattle.answer.specs.Counted.{countedNumber, countedValue}
+use Rattle.answer.specs.declared.Counted.{Counted}
 use Rattle.promise.specs.Table.{filled, Table, allEmpty, isFilled, element, numbered, tableAnswer, tableAfter, tableAnswers, tableRun}
 use Rattle.promise.specs.Image.{Setting, vector}
 

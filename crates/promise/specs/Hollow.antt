@@ -6,18 +6,18 @@ use mathlib.Core.Logic.{_≢_}
 use mathlib.Core.Bool.{true, false}
 use mathlib.Core.List.{List, [], _∷_}
 use lib.Dec.{eqb}
-use Rattle.lists.specs.Lists.{tab}
+use Rattle.lists.specs.Lists.{tab, howMany}
 use Rattle.answer.specs.declared.Outcome.the-variants.{Done}
 use Rattle.answer.specs.declared.Refusal.the-variants.{Unreadable}
 use Rattle.vector.specs.Vectors.{product}
 use Rattle.mask.specs.Masks.{maskRow}
-use Rattle.mask.specs.Response.{tagIn}
+use Rattle.message.specs.Response.{tagIn}
 use Rattle.audit.specs.Verdict.{namedRow, appended, accepts}
 use Rattle.archive.specs.Layout.{recordLength, placeNumber, placeCount, sizesOf, markAt, byteIn, openOut}
 use Rattle.archive.specs.Calls.{Call, encode, archiveAnswer, archiveAfter}
-use Rattle.archive.specs.Read.{howMany, rowIn, Blind, Enough, ReadAllows}
+use Rattle.archive.specs.Read.{rowIn, Blind, Enough, ReadAllows}
 use Rattle.archive.specs.Inventory.{InventoryAllows}
-use Rattle.archive.specs.declared.Counted.the-variants.{Count, Refused}
+use Rattle.answer.specs.declared.Counted.the-variants.{Count, Refused}
 use Rattle.promise.specs.Worked as W
 use Rattle.promise.specs.Life as L
 

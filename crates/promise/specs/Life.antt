@@ -3,16 +3,15 @@
 use Prim.Native.Nat.{ℕ}
 use mathlib.Core.Path.{_≡_, refl}
 use mathlib.Core.List.{List, [], _∷_}
-use Rattle.lists.specs.Lists.{tab}
+use Rattle.lists.specs.Lists.{tab, Bytes}
 use Rattle.answer.specs.declared.Outcome.the-variants.{Done, Refused}
 use Rattle.answer.specs.declared.Refusal.the-variants.{Length, NoSuchPlace, PlaceEmpty, PlaceFilled}
 use Rattle.sizes.specs.declared.Sizes.{Sizes}
 use Rattle.tag.specs.Vector.{vectorOut}
-use Rattle.mask.specs.Operations.{setupAnswer}
+use Rattle.mask.specs.Setup.{setupAnswer}
 use Rattle.audit.specs.declared.Judgement.the-variants.{Accepted}
 use Rattle.archive.specs.Layout.{openAnswer, openOut}
 use Rattle.archive.specs.Calls.{Call, encode, lose, repair, archiveAnswers, archiveRun}
-use Rattle.archive.specs.Read.{Bytes}
 use Rattle.promise.specs.Table.{Table, allEmpty, tableRun}
 use Rattle.promise.specs.Demand3.{Given, elements, Admitted, Honest, message, sent, says}
 

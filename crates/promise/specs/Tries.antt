@@ -9,11 +9,11 @@ use Rattle.answer.specs.Numbers.{outcomeNumber}
 use Rattle.bits.specs.Fields.{pack, packed}
 use Rattle.sizes.specs.declared.Sizes.{Sizes}
 use Rattle.sizes.specs.Sizes.{sizesOutside}
-use Rattle.audit.specs.Challenge.{Challenge, challengeOf, malformedChallenge, challengeAnswer, challengeOut}
+use Rattle.message.specs.Challenge.{Challenge, challengeOf, malformedChallenge, challengeAnswer, challengeOut}
 use Rattle.archive.specs.Layout.{archiveLength, sizeFields, badArchive, opened, openAnswer}
-use Rattle.archive.specs.Read.{Bytes}
+use Rattle.lists.specs.Lists.{Bytes}
 use Rattle.archive.specs.Inventory.{InventoryAllows}
-use Rattle.archive.specs.declared.Counted.the-variants.{Count}
+use Rattle.answer.specs.declared.Counted.the-variants.{Count}
 use Rattle.promise.specs.Table.{Table, allEmpty}
 use Rattle.promise.specs.Image.{Setting, image}
 use Rattle.promise.specs.Worked as W

@@ -13,14 +13,14 @@ use Rattle.field.specs.declared.Inverted.the-variants.{Element}
 use Rattle.sizes.specs.declared.Sizes.{Sizes}
 use Rattle.vector.specs.Vectors.{product}
 use Rattle.mask.specs.Masks.{auxiliary, mask, maskSum}
-use Rattle.mask.specs.Response.{responseBytes, sumIn, tagIn}
-use Rattle.audit.specs.Challenge.{Challenge, challengeAnswer, challengeOut}
+use Rattle.message.specs.Response.{responseBytes, sumIn, tagIn}
+use Rattle.message.specs.Challenge.{Challenge, challengeAnswer, challengeOut}
 use Rattle.audit.specs.Verdict.{namedRow, appended, accepts}
 use Rattle.archive.specs.Blocks.{source, codedRecord}
 use Rattle.archive.specs.Prove.{namedByte}
 use Rattle.archive.specs.Read.{ReadAllows}
-use Rattle.archive.specs.Counted.{countedNumber}
-use Rattle.archive.specs.declared.Counted.the-variants.{Count, Refused}
+use Rattle.answer.specs.Counted.{countedNumber}
+use Rattle.answer.specs.declared.Counted.the-variants.{Count, Refused}
 use Rattle.tag.specs.KeyVector.{withTag}
 
 abbrev pub z : Sizes

@@ -17,10 +17,9 @@ use Rattle.answer.proofs.RefusalLaws.{refused, passed}
 use Rattle.bits.specs.Fields.{fieldAt}
 use Rattle.sizes.specs.declared.Sizes.{Sizes}
 use Rattle.vector.specs.Vectors.{added}
-use Rattle.audit.specs.Challenge.{Challenge, challengeBits, challengeOf, malformedChallenge}
-use Rattle.audit.specs.Verdict.{notThere}
-use Rattle.audit.proofs.ReadLaws.{readable}
-use Rattle.audit.proofs.NamedLaws.{firstNamed, place-there, named-read}
+use Rattle.message.specs.Challenge.{Challenge, challengeBits, challengeOf, malformedChallenge, notThere}
+use Rattle.message.proofs.ReadLaws.{readable}
+use Rattle.message.proofs.NamedLaws.{firstNamed, place-there, named-read}
 use Rattle.archive.specs.Layout.{placeCount, recordLength, placeNumber, recordStart, sizesOf, filledIn, byteIn, badArchive}
 use Rattle.archive.specs.Prove.{proveFor, proveAnswer, namedByte}
 use Rattle.archive.proofs.SizeLaws.{number-low, count-low, record-fits}

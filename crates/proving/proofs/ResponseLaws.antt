@@ -11,8 +11,8 @@ use Rattle.field.specs.Field.{plus}
 use Rattle.vector.specs.Vectors.{added}
 use Rattle.vector.proofs.AddedLaws.{length-added, added-at, added-below}
 use Rattle.mask.specs.Masks.{maskRow, maskCoefficient, mask, maskSum}
-use Rattle.mask.specs.Response.{responseLength, responseHead, responseBytes}
-use Rattle.mask.proofs.ResponseLaws.{is-response}
+use Rattle.message.specs.Response.{responseLength, responseHead, responseBytes}
+use Rattle.message.proofs.ResponseLaws.{is-response}
 use Rattle.archive.specs.Prove.{responseFor}
 
 -- first byte, block, mask, seed, mask sum, elements in clear, tag: one store after another, and the length that they keep

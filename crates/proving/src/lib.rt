@@ -6,9 +6,8 @@ ghost use lib.ListN.{length};
 ghost use Rattle.lists.specs.Lists.{at, anyBelow};
 ghost use Rattle.answer.specs.Refusals.{Passed};
 ghost use Rattle.field.specs.Tables.{PowerTable, LogTable};
-ghost use Rattle.mask.specs.Response.{responseLength};
-ghost use Rattle.audit.specs.Challenge.{challengeOf, malformedChallenge};
-ghost use Rattle.audit.specs.Verdict.{notThere};
+ghost use Rattle.message.specs.Response.{responseLength};
+ghost use Rattle.message.specs.Challenge.{challengeOf, malformedChallenge, notThere};
 ghost use Rattle.archive.specs.Layout.{recordLength, sizesOf, idOf, filledIn, badArchive};
 ghost use Rattle.archive.specs.Prove.{proveAnswer, responseFor, namedByte, provedFor, proveOut};
 use answer::Outcome;
@@ -25,9 +24,9 @@ fn any_named_empty(archive: &[u8], message: &[u8]) -> bool
     ensures { λ r. ⌜ r ≡ anyBelow (length (challengeOf (now (message .entry)) .places)) (λ j. not (filledIn (sizesOf (now (archive .entry))) (now (archive .entry)) (challengeOf (now (message .entry)) .node) (at (challengeOf (now (message .entry)) .places) j))) ⌝ }
 {
     let z = sizes_in(archive);
-    let first = audit::node_in(message) * z.places;
-    for j in 0..audit::count_in(message) {
-        if !marked(archive, first + audit::place_in(message, j)) {
+    let first = message::node_in(message) * z.places;
+    for j in 0..message::count_in(message) {
+        if !marked(archive, first + message::place_in(message, j)) {
             return true;
         }
     }
@@ -48,7 +47,7 @@ fn prove_check(
     if bad_archive(archive) {
         return Outcome::Refused(Refusal::BadArchive);
     }
-    if audit::malformed(message) {
+    if message::malformed(message) {
         return Outcome::Refused(Refusal::Malformed);
     }
     let z = sizes_in(archive);
@@ -59,7 +58,7 @@ fn prove_check(
     {
         return Outcome::Refused(Refusal::Length);
     }
-    if audit::not_there(z, message) {
+    if message::not_there(z, message) {
         return Outcome::Refused(Refusal::NoSuchPlace);
     }
     if any_named_empty(archive, message) {
@@ -74,9 +73,9 @@ fn named_record(powers: &[u8; 510], logs: &[u8; 256], archive: &[u8], message: &
     ensures { λ r. ⌜ ((e : ℕ) → e < recordLength (sizesOf (now (archive .entry))) → at r e ≡ namedByte (sizesOf (now (archive .entry))) (now (archive .entry)) (challengeOf (now (message .entry))) e) ⌝ }
 {
     let z = sizes_in(archive);
-    let start = record_start(z, audit::node_in(message) * z.places);
+    let start = record_start(z, message::node_in(message) * z.places);
     let mut record = [0u8; 1041];
-    audit::add_named(
+    message::add_named(
         powers,
         logs,
         message,
@@ -103,7 +102,7 @@ fn write_parts(
     requires { ⌜ (node < 8) × (3 ≤ n) × (n ≤ 1024) × (m ≤ 16) × (length (now combined) ≡ 1041) × (length (now id) ≡ 8) × (length (now elements) ≡ n - 1) × (length (now seed) ≡ 11) × (length (now response) ≡ responseLength n) ⌝ }
     ensures { λ _. ⌜ now (response .exit) ≡ responseFor n (now (id .entry)) key (now (elements .entry)) (now (seed .entry)) node (at (now (combined .entry))) (at (now (combined .entry)) (n + m)) ⌝ }
 {
-    response[0] = mask::head_byte(node);
+    response[0] = message::head_byte(node);
     lists::store(combined, 0, response, 1, n - 2);
     mask::add_mask(key, id, seed, n, response, 1);
     lists::store(seed, 0, response, n - 1, 11);
@@ -129,7 +128,7 @@ fn write_response(
     let logs = pair.logs;
     let z = sizes_in(archive);
     let combined = named_record(&powers, &logs, archive, message);
-    let node = audit::node_in(message);
+    let node = message::node_in(message);
     let key = tag::key_array(mask_key);
     write_parts(
         node,

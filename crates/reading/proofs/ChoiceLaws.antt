@@ -6,7 +6,7 @@ use mathlib.Core.List.{List}
 use native.Mathlib.Numerals.{add-one}
 use native.Mathlib.Omega.{arith}
 use native.Mathlib.Decide.{ℕ-discrete}
-use Rattle.lists.specs.Lists.{at, over}
+use Rattle.lists.specs.Lists.{at, over, howMany}
 use Rattle.lists.proofs.OverLaws.{over-below, over-within, over-above}
 use Rattle.sizes.specs.declared.Sizes.{Sizes}
 use Rattle.vector.specs.Vectors.{mixed}
@@ -15,12 +15,12 @@ use Rattle.linear.proofs.FactLaws.{last-combined}
 use Rattle.linear.proofs.SameLaws.{independent-same}
 use Rattle.linear.proofs.LastLaws.{last-apart}
 use Rattle.archive.specs.Layout.{markAt, byteIn}
-use Rattle.archive.specs.Read.{howMany, rowIn, Combined}
-use Rattle.archive.proofs.ReadLaws.{howMany-same, combined-same}
-use Rattle.archive.proofs.ListingLaws.{howMany-more, howMany-zero}
+use Rattle.archive.specs.Read.{rowIn, Combined}
+use Rattle.lists.proofs.CountLaws.{howMany-same, howMany-more, howMany-zero, howMany-less}
+use Rattle.archive.proofs.ReadLaws.{combined-same}
 use Rattle.reading.specs.declared.Chosen.{Chosen}
 use Rattle.reading.specs.Choice.{Choice}
-use Rattle.reading.proofs.GatherLaws.{howMany-less, gather, combined-listed}
+use Rattle.reading.proofs.GatherLaws.{gather, combined-listed}
 
 -- what holds below k and at k holds below k + 1
 up-to : (k : ℕ) (P : ℕ → Type 0) → ((j : ℕ) → j < k → P j) → P k → (j : ℕ) → j < k + 1 → P j

@@ -7,7 +7,7 @@ use mathlib.Core.List.{List}
 use native.Mathlib.Nat.{div-add-mod', mod-lt, div-lt-iff-lt-mul}
 use native.Mathlib.Omega.{arith}
 use lib.ListN.{length}
-use Rattle.lists.specs.Lists.{at, flat, grid}
+use Rattle.lists.specs.Lists.{at, flat, grid, howMany}
 use Rattle.lists.proofs.PutLaws.{length-flat, flat-at, grid-all}
 use Rattle.answer.specs.declared.Outcome.the-variants.{Done}
 use Rattle.answer.specs.declared.Refusal.the-variants.{Unreadable}
@@ -19,8 +19,8 @@ use Rattle.vector.proofs.VectorLaws.{mixed-lt, product-keys}
 use Rattle.linear.specs.Elimination.{Matrix, Reduces}
 use Rattle.archive.specs.Layout.{sizesOf, byteIn, badArchive}
 use Rattle.archive.specs.Blocks.{fileLength}
-use Rattle.archive.specs.Read.{howMany, rowIn, Solved, readBefore, ReadFor, ReadAllows}
-use Rattle.archive.specs.declared.Counted.the-variants.{Count, Refused}
+use Rattle.archive.specs.Read.{rowIn, Solved, readBefore, ReadFor, ReadAllows}
+use Rattle.answer.specs.declared.Counted.the-variants.{Count, Refused}
 use Rattle.archive.proofs.CallLaws.{read-sizes}
 use Rattle.reading.specs.declared.Chosen.{Chosen}
 use Rattle.reading.specs.Choice.{Complete}

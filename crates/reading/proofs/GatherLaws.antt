@@ -1,38 +1,20 @@
 -- A combination of the taken places' rows is one of the rows listed in order. Assumes nothing.
-use Prim.Native.Nat.{ℕ, zero, suc, _+_, _-_, _<_, _≤_}
+use Prim.Native.Nat.{ℕ, zero, suc, _+_, _-_, _<_}
 use mathlib.Core.Path.{_≡_, refl, sym, ap, ap₂, _∙_}
 use mathlib.Core.Bool.{Bool, true, false}
 use mathlib.Core.List.{List}
 use native.Mathlib.Nat.{add-zero}
 use native.Mathlib.Omega.{arith}
 use lib.Bits.{xor-zero-r}
-use Rattle.lists.specs.Lists.{pick}
+use Rattle.lists.specs.Lists.{pick, bit, howMany}
 use Rattle.field.specs.Field.{plus, sum, times}
 use Rattle.field.proofs.SumLaws.{sum-none, sum-last, sum-more}
 use Rattle.field.proofs.TimesLaws.{times-zero}
-use Rattle.bits.specs.Fields.{bit}
 use Rattle.sizes.specs.declared.Sizes.{Sizes}
 use Rattle.vector.specs.Vectors.{mixed}
-use Rattle.archive.specs.Read.{howMany, rowIn, Combined}
-use Rattle.archive.proofs.InventoryLaws.{howMany-none, howMany-split}
-use Rattle.archive.proofs.ListingLaws.{howMany-more}
+use Rattle.archive.specs.Read.{rowIn, Combined}
 
 -- ---- counting
-
--- up to a later index, the indices from k on that pass are added
-howMany-from : (k l : ℕ) (p : ℕ → Bool) → k ≤ l → howMany l p ≡ howMany k p + howMany (l - k) (λ i. p (k + i))
-howMany-from k l p h = let e : l ≡ k + (l - k) = omega arith in ap (λ (n : ℕ). howMany n p) e ∙ howMany-split k (l - k) p
-
-pub howMany-mono : (k l : ℕ) (p : ℕ → Bool) → k ≤ l → howMany k p ≤ howMany l p
-howMany-mono k l p h = omega (arith, howMany-from k l p h)
-
--- an index that passes is counted
-pub howMany-less : (j k : ℕ) (p : ℕ → Bool) → j < k → p j ≡ true → howMany j p < howMany k p
-howMany-less j k p h e = omega (arith, howMany-mono (j + 1) k p (omega arith), howMany-more j p, ap bit e)
-
--- no index from k on passes
-pub howMany-stop : (k l : ℕ) (p : ℕ → Bool) → k ≤ l → ((j : ℕ) → k ≤ j → p j ≡ false) → howMany l p ≡ howMany k p
-howMany-stop k l p h later = omega (arith, howMany-from k l p h, howMany-none (l - k) (λ i. p (k + i)) (λ i b. later (k + i) (omega arith)))
 
 -- ---- combinations
 

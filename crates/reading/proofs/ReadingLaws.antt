@@ -6,19 +6,19 @@ use mathlib.Core.Bool.{Bool, true, false, true≢false}
 use mathlib.Core.List.{List}
 use native.Mathlib.Omega.{arith}
 use borrow.Author.Tests.{lt-ltb}
-use Rattle.lists.specs.Lists.{at}
+use Rattle.lists.specs.Lists.{at, bit, howMany}
 use Rattle.lists.proofs.TabLaws.{order}
-use Rattle.bits.specs.Fields.{bit}
 use Rattle.sizes.specs.declared.Sizes.{Sizes}
 use Rattle.vector.specs.Vectors.{product, mixed}
 use Rattle.linear.specs.Elimination.{Matrix, Orthogonal, Reduces}
 use Rattle.linear.proofs.SameLaws.{spans}
 use Rattle.archive.specs.Layout.{placeCount, markAt, byteIn}
-use Rattle.archive.specs.Read.{howMany, rowIn, Blind, Combined, Takes, among, Enough}
+use Rattle.archive.specs.Read.{rowIn, Blind, Combined, Takes, among, Enough}
 use Rattle.archive.proofs.ReadLaws.{filled-zero}
 use Rattle.reading.specs.declared.Chosen.{Chosen}
 use Rattle.reading.specs.Choice.{Choice, Complete}
-use Rattle.reading.proofs.GatherLaws.{howMany-mono, howMany-less, howMany-stop, combined-listed}
+use Rattle.lists.proofs.CountLaws.{howMany-mono, howMany-less, howMany-stop}
+use Rattle.reading.proofs.GatherLaws.{combined-listed}
 use Rattle.reading.proofs.ChoiceLaws.{rowsOf}
 
 -- ---- counting

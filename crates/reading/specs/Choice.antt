@@ -4,11 +4,11 @@ use mathlib.Core.Path.{_≡_}
 use mathlib.Core.Logic.{_⊎_}
 use mathlib.Core.Bool.{Bool, true, false}
 use mathlib.Core.List.{List}
-use Rattle.lists.specs.Lists.{at}
+use Rattle.lists.specs.Lists.{at, howMany}
 use Rattle.sizes.specs.declared.Sizes.{Sizes}
 use Rattle.linear.specs.Elimination.{Independent}
 use Rattle.archive.specs.Layout.{placeCount, markAt}
-use Rattle.archive.specs.Read.{howMany, rowIn, Takes}
+use Rattle.archive.specs.Read.{rowIn, Takes}
 use Rattle.reading.specs.declared.Chosen.{Chosen}
 
 -- c lists the places taken among the first k, in order

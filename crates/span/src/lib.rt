@@ -8,17 +8,18 @@ ghost use Rattle.field.specs.Field.{times};
 ghost use Rattle.field.specs.Inverse.{inverted, invertedOutcome, invertedValue};
 ghost use Rattle.keystream.specs.Block.{blockAnswer, blockOut};
 ghost use Rattle.tag.specs.Vector.{vectorAnswer, vectorOut};
-ghost use Rattle.mask.specs.Operations.{setupAnswer, setupOut, unmaskAnswer, unmaskOut};
-ghost use Rattle.audit.specs.Challenge.{challengeFor, challengeAnswer, challengeOut};
+ghost use Rattle.mask.specs.Setup.{setupAnswer, setupOut};
+ghost use Rattle.message.specs.Unmask.{unmaskAnswer, unmaskOut};
+ghost use Rattle.message.specs.Challenge.{challengeFor, challengeAnswer, challengeOut};
 ghost use Rattle.audit.specs.Verdict.{judgementNumber, verdictOf};
 ghost use Rattle.archive.specs.Layout.{openAnswer, openOut};
 ghost use Rattle.archive.specs.Calls as Calls;
 ghost use Rattle.archive.specs.Calls.{archiveAnswer, archiveAfter, scratchAfter};
 ghost use Rattle.archive.specs.Prove.{proveAnswer, proveOut};
-ghost use Rattle.archive.specs.Counted.{countedNumber, countedValue, Told};
+ghost use Rattle.answer.specs.Counted.{countedNumber, countedValue, Told};
 ghost use Rattle.archive.specs.Inventory.{InventoryAllows};
 ghost use Rattle.archive.specs.Read.{ReadAllows};
-use archive::Counted;
+use answer::Counted;
 use field::Inverted;
 
 #[no_mangle]
@@ -83,7 +84,7 @@ pub extern "C" fn span_unmask(
     ensures number { λ r. ⌜ r ≡ outcomeNumber (unmaskAnswer n (now (id .entry)) (now («mask_key» .entry)) (now (response .entry)) (now (out .entry))) ⌝ }
     ensures output { λ _. ⌜ now (out .exit) ≡ unmaskOut n (now (id .entry)) (now («mask_key» .entry)) (now (response .entry)) (now (out .entry)) ⌝ }
 {
-    answer::number(mask::unmask(n, id, mask_key, response, out))
+    answer::number(message::unmask(n, id, mask_key, response, out))
 }
 
 #[no_mangle]
@@ -96,7 +97,7 @@ pub extern "C" fn span_challenge(
     ensures number { λ r. ⌜ r ≡ outcomeNumber (challengeAnswer (challengeFor node (now (places .entry)) (now (coefficients .entry))) (now (message .entry))) ⌝ }
     ensures output { λ _. ⌜ now (message .exit) ≡ challengeOut (challengeFor node (now (places .entry)) (now (coefficients .entry))) (now (message .entry)) ⌝ }
 {
-    answer::number(audit::challenge(node, places, coefficients, message))
+    answer::number(message::challenge(node, places, coefficients, message))
 }
 
 #[no_mangle]
@@ -193,7 +194,7 @@ fn tell(answer: Counted, value: &mut u8) -> u8
     ensures number { λ r. ⌜ r ≡ countedNumber answer ⌝ }
     ensures output { λ _. ⌜ now (value .exit) ≡ countedValue answer (now (value .entry)) ⌝ }
 {
-    let number = archive::number(answer);
+    let number = answer::counted_number(answer);
     if let Counted::Count(k) = answer {
         *value = (k % 256) as u8;
         return number;

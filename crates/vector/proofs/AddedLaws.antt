@@ -9,7 +9,7 @@ use lib.ListN.{length, set, replicate, getD-replicate}
 use lib.Seq.{set-getD}
 use Rattle.lists.specs.Lists.{at, put, grid}
 use Rattle.lists.proofs.PutLaws.{length-put, put-below, put-above, put-at, put-more, put-same, put-again, length-grid, grid-more}
-use Rattle.field.specs.Field.{plus, sum, times}
+use Rattle.field.specs.Field.{plus, times}
 use Rattle.field.proofs.SumLaws.{sum-none, sum-more}
 use Rattle.field.proofs.XorLaws.{xor-assoc}
 use Rattle.vector.specs.Vectors.{mixed, added}

@@ -9,14 +9,14 @@ const ROWS: [u8; 4] = [0xf3, 0xfe, 0x72, 0xfb];
 
 fn challenge_worked() {
     let mut message = [0u8; 5];
-    let answer = answer::number(audit::challenge(2, &[0, 1], &[0x07, 0xb5], &mut message));
+    let answer = answer::number(message::challenge(2, &[0, 1], &[0x07, 0xb5], &mut message));
     cases::number(b"Challenge's answer", 0, answer as u64);
     cases::bytes(b"Challenge to node 2, places 0 and 1", &CHALLENGE, &message);
 }
 
 fn challenge_of_one() {
     let mut message = [0xffu8; 3];
-    let answer = answer::number(audit::challenge(2, &[0], &[1], &mut message));
+    let answer = answer::number(message::challenge(2, &[0], &[1], &mut message));
     cases::number(b"Challenge's answer, one item", 0, answer as u64);
     cases::bytes(
         b"Challenge to node 2, place 0, coefficient 01",
@@ -41,7 +41,7 @@ fn challenge(
     named[0] = first;
     named[1] = second;
     let mut lent = [0xa5u8; 64];
-    let answer = answer::number(audit::challenge(
+    let answer = answer::number(message::challenge(
         node,
         &named[0..places % 65],
         &ones[0..coefficients % 65],

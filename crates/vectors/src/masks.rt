@@ -22,7 +22,7 @@ fn setup_worked() {
 
 fn unmask_worked() {
     let mut block = [0u8; 1];
-    let answer = answer::number(mask::unmask(3, &ID, &counting_key(100), &RESPONSE, &mut block));
+    let answer = answer::number(message::unmask(3, &ID, &counting_key(100), &RESPONSE, &mut block));
     cases::number(b"Unmask's answer", 0, answer as u64);
     cases::bytes(b"Unmask", &[0x74], &block);
 }
@@ -100,7 +100,7 @@ fn unmask(
     let mut responses = ids;
     responses[0] = first;
     let mut lent = ids;
-    let answer = answer::number(mask::unmask(
+    let answer = answer::number(message::unmask(
         n,
         &ids[0..id % 65],
         &keys[0..mask_key % 65],

@@ -1,5 +1,5 @@
 use borrow.Author.Needs.{needs}
-use Rattle.mask.proofs.OperationLaws.{setup-sizes, setup-written, setup-kept}
+use Rattle.mask.proofs.SetupLaws.{setup-sizes, setup-written, setup-kept}
 use Rattle.mask.proofs.setup.Statement.{statement}
 use Rattle.mask.proofs.setup.Tie as tie
 

@@ -4,7 +4,7 @@ use mathlib.Core.Bool.{not}
 use native.Mathlib.Omega.{arith}
 use Rattle.lists.proofs.AnyLaws.{any-first, any-rest, any-four}
 use Rattle.answer.proofs.RefusalLaws.{refused, passed, same, inside}
-use Rattle.mask.specs.Operations.{setupAnswer}
+use Rattle.mask.specs.Setup.{setupAnswer}
 use Rattle.mask.proofs.setup_check.Statement.{statement}
 use Rattle.mask.proofs.setup_check.Tie as tie
 

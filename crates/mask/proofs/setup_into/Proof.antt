@@ -1,5 +1,5 @@
 use borrow.Author.Needs.{needs}
-use Rattle.mask.proofs.OperationLaws.{auxiliary-of}
+use Rattle.mask.proofs.SetupLaws.{auxiliary-of}
 use Rattle.mask.proofs.setup_into.Statement.{statement}
 use Rattle.mask.proofs.setup_into.Tie as tie
 

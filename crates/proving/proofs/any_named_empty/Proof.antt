@@ -7,8 +7,8 @@ use native.Mathlib.Omega.{arith}
 use lib.ListN.{length}
 use Rattle.lists.specs.Lists.{at}
 use Rattle.lists.proofs.AnyLaws.{any-some, any-none}
-use Rattle.audit.specs.Challenge.{challengeOf}
-use Rattle.audit.proofs.ReadLaws.{readable}
+use Rattle.message.specs.Challenge.{challengeOf}
+use Rattle.message.proofs.ReadLaws.{readable}
 use Rattle.archive.specs.Layout.{sizesOf, markAt, filledIn}
 use Rattle.archive.proofs.GoodLaws.{good-length}
 use Rattle.proving.proofs.ProveLaws.{first-low, number-is, number-fits}

@@ -2,9 +2,9 @@ use borrow.Author.Needs.{needs}
 use mathlib.Core.Path.{_≡_, sym, ap, subst, _∙_}
 use Prim.Native.Nat.{ℕ, _%_, _<_}
 use native.Mathlib.Omega.{arith}
-use Rattle.archive.specs.declared.Counted.{Counted}
-use Rattle.archive.specs.declared.Counted.the-variants.{Count}
-use Rattle.archive.specs.Counted.{countedValue}
+use Rattle.answer.specs.declared.Counted.{Counted}
+use Rattle.answer.specs.declared.Counted.the-variants.{Count}
+use Rattle.answer.specs.Counted.{countedValue}
 use Rattle.span.proofs.tell.Statement.{statement}
 use Rattle.span.proofs.tell.Tie as tie
 

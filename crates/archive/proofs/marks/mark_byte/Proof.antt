@@ -4,7 +4,8 @@ use Prim.Native.Nat.{_≤_, _-_}
 use mathlib.Core.Path.{_≡_}
 use native.Mathlib.Omega.{arith}
 use Rattle.bits.specs.Fields.{number}
-use Rattle.bits.proofs.NumberLaws.{bit-low, number-none, number-more, number-small}
+use Rattle.lists.proofs.CountLaws.{bit-low}
+use Rattle.bits.proofs.NumberLaws.{number-none, number-more, number-small}
 use Rattle.archive.proofs.MarkLaws.{markBits, mark-byte-made}
 use Rattle.archive.proofs.marks.mark_byte.Statement.{statement}
 use Rattle.archive.proofs.marks.mark_byte.Tie as tie

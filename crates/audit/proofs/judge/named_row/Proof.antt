@@ -1,7 +1,7 @@
 use borrow.Author.Needs.{needs}
 use native.Mathlib.Omega.{arith}
 use Rattle.sizes.proofs.SizeLaws.{ranged}
-use Rattle.audit.proofs.NamedLaws.{vectors-there}
+use Rattle.message.proofs.NamedLaws.{vectors-there}
 use Rattle.audit.proofs.JudgeLaws.{row-named}
 use Rattle.audit.proofs.judge.named_row.Statement.{statement}
 use Rattle.audit.proofs.judge.named_row.Tie as tie

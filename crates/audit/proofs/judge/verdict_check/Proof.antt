@@ -10,7 +10,7 @@ use Rattle.lists.proofs.AnyLaws.{or-false, any-four}
 use Rattle.answer.specs.Refusals.{differs}
 use Rattle.answer.proofs.RefusalLaws.{refused, passed, same, differs-same, differs-other}
 use Rattle.sizes.proofs.SizeLaws.{ranged}
-use Rattle.mask.specs.Response.{responseHead}
+use Rattle.message.specs.Response.{responseHead}
 use Rattle.audit.specs.Verdict.{verdictFor}
 use Rattle.audit.proofs.judge.verdict_check.Statement.{statement}
 use Rattle.audit.proofs.judge.verdict_check.Tie as tie

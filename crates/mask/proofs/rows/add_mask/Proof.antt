@@ -1,5 +1,5 @@
 use borrow.Author.Needs.{needs}
-use Rattle.mask.proofs.OperationLaws.{mask-drawn}
+use Rattle.mask.proofs.SetupLaws.{mask-drawn}
 use Rattle.mask.proofs.rows.add_mask.Statement.{statement}
 use Rattle.mask.proofs.rows.add_mask.Tie as tie
 

@@ -1,5 +1,5 @@
 use borrow.Author.Needs.{needs}
-use Rattle.mask.proofs.OperationLaws.{sum-drawn}
+use Rattle.mask.proofs.SetupLaws.{sum-drawn}
 use Rattle.mask.proofs.rows.mask_sum.Statement.{statement}
 use Rattle.mask.proofs.rows.mask_sum.Tie as tie
 

@@ -6,7 +6,7 @@ use native.Mathlib.Omega.{arith}
 use Rattle.sizes.proofs.SizeLaws.{ranged}
 use Rattle.linear.specs.Elimination.{cells}
 use Rattle.archive.specs.Layout.{markAt}
-use Rattle.archive.proofs.InventoryLaws.{howMany-most}
+use Rattle.lists.proofs.CountLaws.{howMany-most}
 use Rattle.reading.proofs.RowLaws.{place-low}
 use Rattle.reading.proofs.ChoiceLaws.{choice-skip}
 use Rattle.reading.proofs.ConsultLaws.{longer-there, consult-drop, consult-take}

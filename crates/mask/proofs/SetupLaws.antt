@@ -1,0 +1,84 @@
+-- What Setup's answer tells, what is written then, and the mask as its coefficients are drawn. Assumes nothing.
+use Prim.Native.Nat.{ℕ, _+_, _-_, _*_, _<_, _≤_}
+use mathlib.Core.Path.{_≡_, sym, ap₂, _∙_}
+use mathlib.Core.List.{List, _∷_}
+use native.Mathlib.Omega.{arith}
+use lib.ListN.{length}
+use Rattle.lists.specs.Lists.{at, put}
+use Rattle.lists.proofs.TabLaws.{tab-same}
+use Rattle.lists.proofs.AnyLaws.{any-first, any-rest}
+use Rattle.answer.specs.declared.Outcome.{Outcome}
+use Rattle.answer.specs.declared.Outcome.the-variants.{Done, Refused}
+use Rattle.answer.specs.declared.Refusal.{Refusal}
+use Rattle.answer.proofs.RefusalLaws.{accepted, same, inside, after-done, after-refused}
+use Rattle.field.proofs.SumLaws.{sum-same}
+use Rattle.field.proofs.TimesLaws.{times-comm}
+use Rattle.keystream.specs.Draws.{byteAt, fresh, drawn, after}
+use Rattle.keystream.specs.declared.stream.Stream.{Stream}
+use Rattle.keystream.proofs.DrawLaws.{draws-in-order}
+use Rattle.tag.specs.KeyVector.{keyVector}
+use Rattle.vector.specs.Vectors.{product, added}
+use Rattle.vector.proofs.VectorLaws.{mixed-same, product-keys}
+use Rattle.vector.proofs.AddedLaws.{added-same}
+use Rattle.mask.specs.Masks.{F3, maskRow, maskCoefficient, auxiliary, mask, maskSum}
+use Rattle.mask.specs.Setup.{setupAnswer, setupOut}
+use Rattle.mask.proofs.RowLaws.{vector-filled}
+
+-- ---- Setup
+
+module _ (tagKey maskKey id : List ℕ) (n : ℕ) (out : List ℕ) {o : Outcome} (answer : o ≡ setupAnswer tagKey maskKey id n out) where
+  pub setup-sizes : o ≡ Done
+      → (3 ≤ n) × (n ≤ 1024) × (length tagKey ≡ 32) × (length maskKey ≡ 32) × (length id ≡ 8) × (length out ≡ n - 1)
+  unfolding setupAnswer
+  setup-sizes e =
+      let a = accepted _ _ _ (sym answer ∙ e) in
+      let r = inside 3 1024 n (a .0) in
+      let t = accepted _ _ _ (a .1) .0 in
+      let u = any-rest _ _ (any-rest _ _ t) in
+      (r .0, r .1, same _ _ (any-first _ _ t), same _ _ (any-first _ _ (any-rest _ _ t)), same _ _ (any-first _ _ u), same _ _ (any-first _ _ (any-rest _ _ u)))
+
+  pub setup-written : o ≡ Done → {w : List ℕ} → w ≡ auxiliary n (keyVector tagKey id) (maskRow maskKey id) → w ≡ setupOut tagKey maskKey id n out
+  unfolding setupOut
+  setup-written e w = w ∙ sym (after-done _ _ (sym answer ∙ e))
+
+  pub setup-kept : {r : Refusal} → o ≡ Refused r → out ≡ setupOut tagKey maskKey id n out
+  unfolding setupOut
+  setup-kept e = sym (after-refused _ _ (sym answer ∙ e))
+
+-- auxiliary elements over equal key elements
+pub auxiliary-same : (n : ℕ) (v v′ : ℕ → ℕ) (rows : ℕ → ℕ → ℕ) → ((e : ℕ) → e < n - 2 → v e ≡ v′ e) → auxiliary n v rows ≡ auxiliary n v′ rows
+unfolding auxiliary
+auxiliary-same n v v′ rows h = tab-same (n - 1) _ _ (λ i l. product-keys (n - 2) (rows i) v v′ h)
+
+-- the elements over a buffer that F1's stream filled
+pub auxiliary-of : (n : ℕ) (tagKey maskKey id before : List ℕ) {key hidden nonce vector out : List ℕ} → key ≡ tagKey → nonce ≡ 1 ∷ 0 ∷ 0 ∷ 0 ∷ id → hidden ≡ maskKey
+    → length before ≡ 1024 → vector ≡ put (64 * 16) 0 (byteAt key nonce) before → n ≤ 1024 → out ≡ auxiliary n (at vector) (maskRow hidden id)
+    → out ≡ auxiliary n (keyVector tagKey id) (maskRow maskKey id)
+auxiliary-of n tagKey maskKey id before {key} {hidden} {nonce} {vector} p q r l f high e =
+    e ∙ auxiliary-same n (at vector) (keyVector key id) (maskRow hidden id) (λ i h. vector-filled key nonce 16 i before (omega arith) f (omega arith) id q)
+    ∙ ap₂ (λ (a b : List ℕ). auxiliary n (keyVector a id) (maskRow b id)) p r
+
+-- ---- the mask
+
+-- element i of F3's stream
+coefficient-drawn : (key seed : List ℕ) (i : ℕ) {nonce : List ℕ} {s : Stream} → nonce ≡ 3 ∷ seed → s ≡ fresh key nonce → drawn (after i s) .byte ≡ maskCoefficient key seed i
+unfolding maskCoefficient F3
+coefficient-drawn key seed i p q =
+    let z : i + 1 - 1 ≡ i = omega arith in
+    rw (q, p, z) (draws-in-order key (3 ∷ seed) i)
+
+-- the coefficients drawn from F3's stream
+pub mask-drawn : (n from : ℕ) (key seed d : List ℕ) (rows : ℕ → ℕ → ℕ) {nonce w : List ℕ} {s : Stream} → nonce ≡ 3 ∷ seed → s ≡ fresh key nonce
+    → w ≡ added (n - 2) from (mask n (λ i. drawn (after i s) .byte) rows) d → w ≡ added (n - 2) from (mask n (maskCoefficient key seed) rows) d
+unfolding mask
+mask-drawn n from key seed d rows p q r =
+    r ∙ added-same (n - 2) from _ _ d (λ e l. mixed-same (n - 1) _ _ rows e (λ i h. coefficient-drawn key seed i p q))
+
+-- the auxiliary elements times the coefficients drawn
+pub sum-drawn : (n : ℕ) (key seed elements : List ℕ) {nonce : List ℕ} {s : Stream} {r : ℕ} → nonce ≡ 3 ∷ seed → s ≡ fresh key nonce
+    → r ≡ product (n - 1) (λ e. at elements (0 + e)) (λ e. drawn (after e s) .byte) → r ≡ maskSum n (maskCoefficient key seed) elements
+unfolding maskSum product
+sum-drawn n key seed elements p q r =
+    r ∙ sum-same (n - 1) _ _ (λ i l.
+    let z : 0 + i ≡ i = omega arith in
+    rw (coefficient-drawn key seed i p q, z) (times-comm (at elements i) (maskCoefficient key seed i)))

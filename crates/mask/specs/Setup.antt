@@ -1,0 +1,26 @@
+-- The operation Setup.
+use Prim.Native.Nat.{ℕ, _-_}
+use mathlib.Core.Bool.{not}
+use mathlib.Core.List.{List, [], _∷_}
+use lib.ListN.{length}
+use Rattle.lists.specs.Lists.{anyOf, anyBelow}
+use Rattle.answer.specs.declared.Outcome.{Outcome}
+use Rattle.answer.specs.declared.Outcome.the-variants.{Done}
+use Rattle.answer.specs.declared.Refusal.the-variants.{Size, Length, ZeroKeyVector}
+use Rattle.answer.specs.Refusals.{refuse, afterwards, differs}
+use Rattle.sizes.specs.Sizes.{nOutside}
+use Rattle.tag.specs.KeyVector.{keyVector}
+use Rattle.mask.specs.Masks.{maskRow, auxiliary}
+
+-- Setup "takes both keys, id and n, and writes n−1 auxiliary elements": "1, n; 2, a length; 7, the first n−2 key elements are all zero"
+
+unfoldable pub setupAnswer : List ℕ → List ℕ → List ℕ → ℕ → List ℕ → Outcome
+setupAnswer tagKey maskKey id n out =
+    refuse (nOutside n) Size
+    (refuse (anyOf (differs (length tagKey) 32 ∷ differs (length maskKey) 32 ∷ differs (length id) 8 ∷ differs (length out) (n - 1) ∷ [])) Length
+    (refuse (not (anyBelow (n - 2) (λ e. differs (keyVector tagKey id e) 0))) ZeroKeyVector
+    Done))
+
+unfoldable pub setupOut : List ℕ → List ℕ → List ℕ → ℕ → List ℕ → List ℕ
+setupOut tagKey maskKey id n out =
+    afterwards (setupAnswer tagKey maskKey id n out) out (auxiliary n (keyVector tagKey id) (maskRow maskKey id))

@@ -1,0 +1,60 @@
+-- What Unmask's answer tells, and what is written then. Assumes nothing.
+use Prim.Native.Nat.{ℕ, _+_, _-_, _≤_}
+use mathlib.Core.Path.{_≡_, refl, sym, ap, _∙_}
+use mathlib.Core.List.{List}
+use native.Mathlib.Omega.{arith}
+use lib.ListN.{length, take, drop}
+use borrow.Author.Tests.{lt-ltb}
+use Rattle.lists.specs.Lists.{at, tab, put}
+use Rattle.lists.proofs.TabLaws.{is-tab}
+use Rattle.lists.proofs.PutLaws.{length-put, put-front}
+use Rattle.lists.proofs.AnyLaws.{any-first, any-rest}
+use Rattle.answer.specs.declared.Outcome.{Outcome}
+use Rattle.answer.specs.declared.Outcome.the-variants.{Done, Refused}
+use Rattle.answer.specs.declared.Refusal.{Refusal}
+use Rattle.answer.proofs.RefusalLaws.{accepted, same, inside, after-done, after-refused}
+use Rattle.field.specs.Field.{plus}
+use Rattle.vector.specs.Vectors.{added}
+use Rattle.vector.proofs.AddedLaws.{length-added, added-at}
+use Rattle.mask.specs.Masks.{maskRow, maskCoefficient, mask}
+use Rattle.message.specs.Response.{responseLength, dataIn, seedIn}
+use Rattle.message.specs.Unmask.{unmaskAnswer, unmasked, unmaskOut}
+
+module _ (n : ℕ) (id maskKey response out : List ℕ) {o : Outcome} (answer : o ≡ unmaskAnswer n id maskKey response out) where
+  pub unmask-sizes : o ≡ Done
+      → (3 ≤ n) × (n ≤ 1024) × (length id ≡ 8) × (length maskKey ≡ 32) × (length response ≡ responseLength n) × (length out ≡ n - 2)
+  unfolding unmaskAnswer
+  unmask-sizes e =
+      let a = accepted _ _ _ (sym answer ∙ e) in
+      let r = inside 3 1024 n (a .0) in
+      let t = accepted _ _ _ (a .1) .0 in
+      let u = any-rest _ _ (any-rest _ _ t) in
+      (r .0, r .1, same _ _ (any-first _ _ t), same _ _ (any-first _ _ (any-rest _ _ t)), same _ _ (any-first _ _ u), same _ _ (any-first _ _ (any-rest _ _ u)))
+
+  pub unmask-written : o ≡ Done → {w : List ℕ} → w ≡ tab (n - 2) (unmasked n id maskKey response) → w ≡ unmaskOut n id maskKey response out
+  unfolding unmaskOut
+  unmask-written e w = w ∙ sym (after-done _ _ (sym answer ∙ e))
+
+  pub unmask-kept : {r : Refusal} → o ≡ Refused r → out ≡ unmaskOut n id maskKey response out
+  unfolding unmaskOut
+  unmask-kept e = sym (after-refused _ _ (sym answer ∙ e))
+
+-- the part of a response that is its seed
+pub seed-part : (n k : ℕ) (response : List ℕ) → k ≡ 11 → take k (drop (n - 1) response) ≡ seedIn n response
+unfolding seedIn
+seed-part n k response e = rw e
+
+-- the masked bytes with the mask of the response's seed added are what was masked
+pub mask-off : (n : ℕ) (id key response out : List ℕ) {hidden seed copied w : List ℕ} → length out ≡ n - 2 → hidden ≡ key → seed ≡ seedIn n response
+    → copied ≡ put (n - 2) 0 (λ e. at response (1 + e)) out → w ≡ added (n - 2) 0 (mask n (maskCoefficient hidden seed) (maskRow hidden id)) copied
+    → w ≡ tab (n - 2) (unmasked n id key response)
+unfolding unmasked dataIn
+mask-off n id key response out {copied = copied} {w = w} l k p q r =
+    let long : length copied ≡ n - 2 = ap length q ∙ length-put (n - 2) 0 _ out ∙ l in
+    let off : ℕ → ℕ = mask n (maskCoefficient key (seedIn n response)) (maskRow key id) in
+    let there : w ≡ added (n - 2) 0 off copied = rw (k, p) at r in
+    is-tab (n - 2) _ w (ap length there ∙ length-added (n - 2) 0 off copied ∙ long) (λ e h.
+    let z : 0 + e ≡ e = omega arith in
+    let here : at copied (0 + e) ≡ at response (1 + e) = rw (z, q) (put-front (n - 2) _ out e h (omega arith)) in
+    let same : at w e ≡ at (added (n - 2) 0 off copied) (0 + e) = rw (there, z) refl in
+    rw (lt-ltb e (n - 2) h) (same ∙ added-at (n - 2) 0 off copied e h (omega arith) ∙ ap (λ (x : ℕ). plus x (off e)) here))

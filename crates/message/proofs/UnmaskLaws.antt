@@ -1,0 +1,79 @@
+-- Unmask takes off the mask that a response was made with. Assumes nothing.
+use Prim.Native.Nat.{ℕ, _+_, _-_, _<_, _≤_}
+use mathlib.Core.Path.{_≡_, _∙_}
+use mathlib.Core.Bool.{false}
+use mathlib.Core.List.{List, [], _∷_}
+use native.Mathlib.Omega.{arith}
+use lib.Dec.{ltb}
+use lib.ListN.{length}
+use borrow.Author.Tests.{lt-ltb, le-ltb, eq-eqb}
+use Rattle.lists.specs.Lists.{tab, anyOf}
+use Rattle.lists.proofs.TabLaws.{tab-same}
+use Rattle.answer.specs.declared.Outcome.the-variants.{Done}
+use Rattle.answer.specs.declared.Refusal.the-variants.{Size, Length, Malformed}
+use Rattle.answer.specs.Refusals.{differs}
+use Rattle.answer.proofs.RefusalLaws.{passed, after-done, not-outside}
+use Rattle.field.proofs.XorLaws.{xor-undo}
+use Rattle.bits.specs.Fields.{_wide_, widths, fieldAt}
+use Rattle.bits.proofs.PackLaws.{pack-field}
+use Rattle.mask.specs.Masks.{maskRow, maskCoefficient, mask}
+use Rattle.message.specs.Response.{responseLength, responseHead, responseBytes}
+use Rattle.message.specs.Unmask.{unmaskAnswer, unmasked, unmaskOut}
+use Rattle.message.proofs.ResponseLaws.{response-length, response-fields, response-seed, response-data}
+
+module _ (n node : ℕ) (block : ℕ → ℕ) (tag total : ℕ) (id maskKey seed : List ℕ) (low : 3 ≤ n) (seed-size : length seed ≡ 11) where
+  abbrev hidden : ℕ → ℕ
+  hidden = mask n (maskCoefficient maskKey seed) (maskRow maskKey id)
+
+  abbrev r : List ℕ
+  r = responseBytes n node block tag hidden seed total
+
+  pub unmask-element : (e : ℕ) → e < n - 2 → unmasked n id maskKey r e ≡ block e
+  unfolding unmasked
+  unmask-element e h =
+      rw (
+        response-seed n node block tag hidden seed total low seed-size,
+        response-data n node block tag hidden seed total low seed-size e (omega arith),
+        lt-ltb e (n - 2) h,
+      )
+      (xor-undo (block e) (hidden e))
+
+  -- ---- and refuses no such response
+
+  module _ (out : List ℕ) (high : n ≤ 1024) (node-low : node ≤ 5) (id-size : length id ≡ 8) (key-size : length maskKey ≡ 32) (out-size : length out ≡ n - 2) where
+    head-field : (from w : ℕ) → from + w ≤ 8 → fieldAt r from w ≡ fieldAt (responseHead node) from w
+    head-field = response-fields n node block tag hidden seed total low seed-size
+
+    kind-back : fieldAt r 0 4 ≡ 2
+    unfolding widths
+    kind-back = head-field 0 4 (omega arith) ∙ pack-field [] (4 wide 2) _ (omega arith)
+
+    node-back : fieldAt r 4 3 ≡ node
+    unfolding widths
+    node-back = head-field 4 3 (omega arith) ∙ pack-field ((4 wide 2) ∷ []) (3 wide node) _ (omega arith)
+
+    spare-back : fieldAt r 7 1 ≡ 0
+    unfolding widths
+    spare-back = head-field 7 1 (omega arith) ∙ pack-field ((4 wide 2) ∷ (3 wide node) ∷ []) (1 wide 0) [] (omega arith)
+
+    lengths-right : anyOf (differs (length id) 8 ∷ differs (length maskKey) 32 ∷ differs (length r) (responseLength n) ∷ differs (length out) (n - 2) ∷ []) ≡ false
+    unfolding anyOf
+    lengths-right =
+        rw (
+          eq-eqb (length id) 8 id-size,
+          eq-eqb (length maskKey) 32 key-size,
+          eq-eqb (length r) (responseLength n) (response-length n node block tag hidden seed total low seed-size),
+          eq-eqb (length out) (n - 2) out-size,
+        )
+
+    head-right : anyOf (differs (fieldAt r 0 4) 2 ∷ ltb 5 (fieldAt r 4 3) ∷ differs (fieldAt r 7 1) 0 ∷ []) ≡ false
+    unfolding anyOf
+    head-right = rw (kind-back, node-back, spare-back, le-ltb 5 node node-low)
+
+    unmask-accepts : unmaskAnswer n id maskKey r out ≡ Done
+    unfolding unmaskAnswer
+    unmask-accepts = passed Size _ (not-outside 3 1024 n low high) ∙ passed Length _ lengths-right ∙ passed Malformed _ head-right
+
+    pub unmask-gives : (unmaskAnswer n id maskKey r out ≡ Done) × (unmaskOut n id maskKey r out ≡ tab (n - 2) block)
+    unfolding unmaskOut
+    unmask-gives = (unmask-accepts, after-done _ _ unmask-accepts ∙ tab-same (n - 2) _ _ unmask-element)

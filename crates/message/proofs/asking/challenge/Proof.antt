@@ -1,0 +1,30 @@
+use borrow.Author.Needs.{needs}
+use Rattle.message.proofs.MessageLaws.{challenge-lengths, challenge-written, challenge-kept}
+use Rattle.message.proofs.asking.challenge.Statement.{statement}
+use Rattle.message.proofs.asking.challenge.Tie as tie
+
+write-message-requires : tie.Need-write-message-requires
+write-message-requires c κs = challenge-lengths _ _ (c .before .before .before .challenge-check .ensures) (c .before .enum-told .given .1)
+
+returns : tie.Need-returns
+returns c =
+    let a = c .before .before .before .before .before .before .challenge-check .ensures in
+    (a, challenge-written _ _ a (c .before .before .before .before .enum-told .given .1) (c .before .before .write-message .ensures))
+
+returns-2 : tie.Need-returns-2
+returns-2 c =
+    let a = c .before .before .challenge-check .ensures in
+    (a, challenge-kept _ _ a (c .enum-told2 .given .1))
+
+pub challenge-spec : {M : Type 1} → statement M
+challenge-spec =
+    tie.close
+    (tie.spec
+    (λ c κs. search needs)
+    (λ c. search needs)
+    write-message-requires
+    (λ c. search needs)
+    (λ c. search needs)
+    returns
+    (λ c. search needs)
+    returns-2)

@@ -1,0 +1,94 @@
+-- Document 01, Messages: "Challenge: kind, 4 bits, value 1; box, 3, at most 5; count, 4, from 1 to 8; then for each item place, 3,
+-- strictly rising, and coefficient, 8; zero bits to a whole byte. The length is exact. Coefficient 00 is allowed."
+use Prim.Native.Nat.{ℕ, zero, suc, _+_, _-_, _*_}
+use mathlib.Core.Bool.{Bool}
+use mathlib.Core.List.{List, [], _∷_}
+use lib.ListN.{length}
+use lib.Dec.{ltb, leb}
+use Rattle.lists.specs.Lists.{at, tab, anyOf, anyBelow}
+use Rattle.answer.specs.declared.Outcome.{Outcome}
+use Rattle.answer.specs.declared.Outcome.the-variants.{Done}
+use Rattle.answer.specs.declared.Refusal.the-variants.{Length, Malformed}
+use Rattle.answer.specs.Refusals.{refuse, afterwards, differs, outside}
+use Rattle.sizes.specs.declared.Sizes.{Sizes}
+use Rattle.bits.specs.Fields.{Field, _wide_, bytesFor, pack, fieldAt}
+
+-- a challenge: a node (document 01: box), and places with a coefficient each
+pub record Challenge : Type 0 where
+  pub node : ℕ
+  pub places : List ℕ
+  pub coefficients : List ℕ
+
+abbrev pub challengeFor : ℕ → List ℕ → List ℕ → Challenge
+challengeFor node places coefficients = record { node = node; places = places; coefficients = coefficients }
+
+-- `count` items, from item i on
+unfoldable pub items : Challenge → ℕ → ℕ → List Field
+items c i zero = []
+items c i (suc count) = (3 wide at (c .places) i) ∷ (8 wide at (c .coefficients) i) ∷ items c (suc i) count
+
+abbrev pub challengeFields : Challenge → List Field
+challengeFields c = (4 wide 1) ∷ (3 wide c .node) ∷ (4 wide length (c .places)) ∷ items c 0 (length (c .places))
+
+unfoldable pub challengeBytes : Challenge → List ℕ
+challengeBytes c = pack (challengeFields c)
+
+-- 11 bits, and 11 for each item
+abbrev pub challengeBits : ℕ → ℕ
+challengeBits count = 11 * (count + 1)
+
+abbrev pub challengeLength : ℕ → ℕ
+challengeLength count = bytesFor (challengeBits count)
+
+-- "fields out of rule": a node above 5, no item or more than 8, a place above 7, places that do not rise strictly
+unfoldable pub outOfRule : ℕ → List ℕ → Bool
+outOfRule node places =
+    anyOf
+    (ltb 5 node
+    ∷ outside 1 8 (length places)
+    ∷ anyBelow (length places) (λ j. ltb 7 (at places j))
+    ∷ anyBelow (length places - 1) (λ j. leb (at places (j + 1)) (at places j))
+    ∷ [])
+
+-- ---- reading a message
+
+-- the challenge that a message of `count` items says
+unfoldable pub challengeIn : ℕ → List ℕ → Challenge
+challengeIn count message =
+    record {
+      node = fieldAt message 4 3;
+      places = tab count (λ j. fieldAt message (challengeBits j) 3);
+      coefficients = tab count (λ j. fieldAt message (challengeBits j + 3) 8);
+    }
+
+unfoldable pub challengeOf : List ℕ → Challenge
+challengeOf message = challengeIn (fieldAt message 7 4) message
+
+-- "malformed challenge": another kind, fields out of rule, a length that is not exact, or non-zero bits at the end
+unfoldable pub malformedFor : Challenge → List ℕ → Bool
+malformedFor c message =
+    anyOf
+    (differs (fieldAt message 0 4) 1
+    ∷ outOfRule (c .node) (c .places)
+    ∷ differs (length message) (challengeLength (length (c .places)))
+    ∷ differs (fieldAt message (challengeBits (length (c .places))) (8 * challengeLength (length (c .places)) - challengeBits (length (c .places)))) 0
+    ∷ [])
+
+abbrev pub malformedChallenge : List ℕ → Bool
+malformedChallenge message = malformedFor (challengeOf message) message
+
+-- "the box not below N or a place not below M"
+abbrev pub notThere : Sizes → Challenge → Bool
+notThere z c = anyOf (leb (z .nodes) (c .node) ∷ anyBelow (length (c .places)) (λ j. leb (z .places) (at (c .places) j)) ∷ [])
+
+-- ---- Challenge: "2, unequal lists; 9, fields out of rule; 2, output length"
+
+unfoldable pub challengeAnswer : Challenge → List ℕ → Outcome
+challengeAnswer c message =
+    refuse (differs (length (c .coefficients)) (length (c .places))) Length
+    (refuse (outOfRule (c .node) (c .places)) Malformed
+    (refuse (differs (length message) (challengeLength (length (c .places)))) Length
+    Done))
+
+unfoldable pub challengeOut : Challenge → List ℕ → List ℕ
+challengeOut c message = afterwards (challengeAnswer c message) message (challengeBytes c)

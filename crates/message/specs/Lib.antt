@@ -1,0 +1,4 @@
+pub mod Challenge
+pub mod Response
+pub mod Unmask
+pub mod Laws

@@ -1,0 +1,33 @@
+-- The operation Unmask.
+use Prim.Native.Nat.{ℕ, _-_}
+use mathlib.Core.List.{List, [], _∷_}
+use lib.ListN.{length}
+use lib.Dec.{ltb}
+use Rattle.lists.specs.Lists.{tab, anyOf}
+use Rattle.answer.specs.declared.Outcome.{Outcome}
+use Rattle.answer.specs.declared.Outcome.the-variants.{Done}
+use Rattle.answer.specs.declared.Refusal.the-variants.{Size, Length, Malformed}
+use Rattle.answer.specs.Refusals.{refuse, afterwards, differs}
+use Rattle.field.specs.Field.{plus}
+use Rattle.bits.specs.Fields.{fieldAt}
+use Rattle.sizes.specs.Sizes.{nOutside}
+use Rattle.mask.specs.Masks.{maskRow, maskCoefficient, mask}
+use Rattle.message.specs.Response.{responseLength, dataIn, seedIn}
+
+-- Unmask "takes n, id, mask key and response, and writes n−2 bytes": "1, n; 2, a length; 9, first byte not kind 2, a box up to 5
+-- and a zero bit"
+
+unfoldable pub unmaskAnswer : ℕ → List ℕ → List ℕ → List ℕ → List ℕ → Outcome
+unmaskAnswer n id maskKey response out =
+    refuse (nOutside n) Size
+    (refuse (anyOf (differs (length id) 8 ∷ differs (length maskKey) 32 ∷ differs (length response) (responseLength n) ∷ differs (length out) (n - 2) ∷ [])) Length
+    (refuse (anyOf (differs (fieldAt response 0 4) 2 ∷ ltb 5 (fieldAt response 4 3) ∷ differs (fieldAt response 7 1) 0 ∷ [])) Malformed
+    Done))
+
+-- the mask for the response's own seed is taken off again
+unfoldable pub unmasked : ℕ → List ℕ → List ℕ → List ℕ → ℕ → ℕ
+unmasked n id maskKey response e =
+    plus (dataIn n response e) (mask n (maskCoefficient maskKey (seedIn n response)) (maskRow maskKey id) e)
+
+unfoldable pub unmaskOut : ℕ → List ℕ → List ℕ → List ℕ → List ℕ → List ℕ
+unmaskOut n id maskKey response out = afterwards (unmaskAnswer n id maskKey response out) out (tab (n - 2) (unmasked n id maskKey response))

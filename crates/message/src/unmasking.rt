@@ -1,0 +1,60 @@
+// Unmask: the masked bytes of a response without their mask.
+ghost use mathlib.Core.Path.{_≡_};
+ghost use Prim.Native.Nat.{_-_, _≤_};
+ghost use lib.ListN.{length};
+ghost use Rattle.lists.specs.Lists.{tab};
+ghost use Rattle.message.specs.Response.{responseLength};
+ghost use Rattle.message.specs.Unmask.{unmaskAnswer, unmasked, unmaskOut};
+use answer::Outcome;
+use answer::Refusal;
+
+// The first refusal of Unmask.
+fn unmask_check(n: usize, id: &[u8], mask_key: &[u8], response: &[u8], out: &[u8]) -> Outcome
+    ensures { λ r. ⌜ r ≡ unmaskAnswer n (now (id .entry)) (now («mask_key» .entry)) (now (response .entry)) (now (out .entry)) ⌝ }
+{
+    if answer::outside(3, 1024, n) {
+        return Outcome::Refused(Refusal::Size);
+    }
+    if (id.len() != 8)
+        | (mask_key.len() != 32)
+        | (response.len() != n + 14)
+        | (out.len() != n - 2)
+    {
+        return Outcome::Refused(Refusal::Length);
+    }
+    let kind = bits::read_field(response, 0, 4);
+    let node = bits::read_field(response, 4, 3);
+    let spare = bits::read_field(response, 7, 1);
+    if (kind != 2) | (5 < node) | (spare != 0) {
+        return Outcome::Refused(Refusal::Malformed);
+    }
+    Outcome::Done
+}
+
+// The masked bytes, and then the mask of the response's seed taken off them.
+fn unmask_into(n: usize, id: &[u8], mask_key: &[u8], response: &[u8], out: &mut [u8])
+    requires { ⌜ (3 ≤ n) × (n ≤ 1024) × (length (now id) ≡ 8) × (length (now «mask_key») ≡ 32) × (length (now response) ≡ responseLength n) × (length (now out) ≡ n - 2) ⌝ }
+    ensures { λ _. ⌜ now (out .exit) ≡ tab (n - 2) (unmasked n (now (id .entry)) (now («mask_key» .entry)) (now (response .entry))) ⌝ }
+{
+    lists::store(response, 1, out, 0, n - 2);
+    mask::add_mask(
+        tag::key_array(mask_key),
+        id,
+        &response[n - 1..n + 10],
+        n,
+        out,
+        0,
+    );
+}
+
+// The n - 2 bytes that a response hides.
+pub fn unmask(n: usize, id: &[u8], mask_key: &[u8], response: &[u8], out: &mut [u8]) -> Outcome
+    ensures answer { λ r. ⌜ r ≡ unmaskAnswer n (now (id .entry)) (now («mask_key» .entry)) (now (response .entry)) (now (out .entry)) ⌝ }
+    ensures output { λ _. ⌜ now (out .exit) ≡ unmaskOut n (now (id .entry)) (now («mask_key» .entry)) (now (response .entry)) (now (out .entry)) ⌝ }
+{
+    let answer = unmask_check(n, id, mask_key, response, out);
+    if let Outcome::Done = answer {
+        unmask_into(n, id, mask_key, response, out);
+    }
+    answer
+}
