@@ -13,7 +13,8 @@ use Rattle.answer.proofs.RefusalLaws.{differs-same, differs-other}
 use Rattle.bits.specs.Fields.{fieldAt}
 use Rattle.sizes.specs.declared.Sizes.{Sizes}
 use Rattle.sizes.specs.Sizes.{sizesOutside}
-use Rattle.archive.specs.Layout.{placeCount, archiveLength, sizesOf, markAt, badFor, badArchive}
+use Rattle.sizes.specs.Lengths.{placeCount, archiveLength}
+use Rattle.archive.specs.Layout.{sizesOf, markAt, badFor, badArchive}
 
 -- mark k is set, and belongs to none of the first `count` places; the same, as code tests it
 abbrev pub spareMark : List ℕ → ℕ → ℕ → Bool

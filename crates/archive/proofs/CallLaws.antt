@@ -10,7 +10,8 @@ use Rattle.answer.specs.declared.Refusal.{Refusal}
 use Rattle.answer.proofs.RefusalLaws.{passed, after-done, after-refused}
 use Rattle.sizes.specs.declared.Sizes.{Sizes}
 use Rattle.sizes.proofs.SizeLaws.{Ranged}
-use Rattle.archive.specs.Layout.{archiveLength, sizesOf, idOf, filledIn, badArchive}
+use Rattle.sizes.specs.Lengths.{archiveLength}
+use Rattle.archive.specs.Layout.{sizesOf, idOf, filledIn, badArchive}
 use Rattle.archive.specs.Calls.{Call, answerFor, archiveAnswer, effectFor, archiveAfter}
 use Rattle.archive.proofs.GoodLaws.{good-sizes, good-length}
 

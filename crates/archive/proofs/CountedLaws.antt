@@ -8,12 +8,13 @@ use Rattle.answer.proofs.RefusalLaws.{accepted}
 use Rattle.answer.specs.declared.Counted.{Counted}
 use Rattle.answer.specs.declared.Counted.the-variants.{Count, Refused}
 use Rattle.answer.specs.Counted.{countedValue}
-use Rattle.archive.specs.Layout.{placeCount, sizesOf, markAt, badArchive}
+use Rattle.sizes.specs.Lengths.{placeCount}
+use Rattle.archive.specs.Layout.{sizesOf, markAt, badArchive}
 use Rattle.lists.specs.Lists.{howMany}
 use Rattle.archive.specs.Read.{ReadAllows}
 use Rattle.archive.specs.Inventory.{InventoryAllows}
 use Rattle.archive.proofs.GoodLaws.{good-sizes}
-use Rattle.archive.proofs.SizeLaws.{count-low}
+use Rattle.sizes.proofs.PlaceLaws.{count-low}
 use Rattle.lists.proofs.CountLaws.{howMany-most}
 
 few : (s : List ℕ) (p : ℕ → Bool) → badArchive s ≡ false → howMany (placeCount (sizesOf s)) p < 256

@@ -7,7 +7,8 @@ use native.Mathlib.Omega.{arith}
 use lib.ListN.{length, length-take, length-drop}
 use Rattle.lists.proofs.AnyLaws.{any-first, any-rest}
 use Rattle.answer.proofs.RefusalLaws.{same}
-use Rattle.archive.specs.Layout.{archiveLength, sizesOf, idOf, badFor, badArchive}
+use Rattle.sizes.specs.Lengths.{archiveLength}
+use Rattle.archive.specs.Layout.{sizesOf, idOf, badFor, badArchive}
 use Rattle.sizes.proofs.SizeLaws.{Ranged, ranged}
 
 module _ (s : List ℕ) (good : badArchive s ≡ false) where

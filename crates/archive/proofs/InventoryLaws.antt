@@ -12,7 +12,7 @@ use Rattle.lists.specs.Lists.{pick, at, bit, howMany}
 use Rattle.lists.proofs.TabLaws.{order}
 use Rattle.lists.proofs.CountLaws.{howMany-same, howMany-most, howMany-none, howMany-split}
 use Rattle.sizes.specs.declared.Sizes.{Sizes}
-use Rattle.archive.specs.Layout.{placeCount}
+use Rattle.sizes.specs.Lengths.{placeCount}
 use Rattle.archive.specs.Inventory.{Listed}
 
 -- ---- the list

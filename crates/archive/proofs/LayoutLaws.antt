@@ -18,7 +18,8 @@ use Rattle.bits.specs.Fields.{_wide_, widths, pack, packed, bitAt, fieldAt}
 use Rattle.bits.proofs.PackLaws.{packed-length, packed-bit, packed-same, pack-length, pack-field}
 use Rattle.bits.proofs.AppendLaws.{bit-front, field-front, bit-behind}
 use Rattle.sizes.specs.declared.Sizes.{Sizes}
-use Rattle.archive.specs.Layout.{placeCount, recordLength, archiveLength, recordStart, sizeFields, archiveOf, sizesOf, idOf, markAt, byteIn, badFor, badArchive}
+use Rattle.sizes.specs.Lengths.{placeCount, recordLength, archiveLength, recordStart}
+use Rattle.archive.specs.Layout.{sizeFields, archiveOf, sizesOf, idOf, markAt, byteIn, badFor, badArchive}
 use Rattle.sizes.proofs.SizeLaws.{Ranged, not-sizes-outside}
 
 pub four : {z z′ : Sizes} → z .n ≡ z′ .n → z .m ≡ z′ .m → z .places ≡ z′ .places → z .nodes ≡ z′ .nodes → z ≡ z′

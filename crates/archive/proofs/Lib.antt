@@ -1,4 +1,3 @@
-pub mod SizeLaws
 pub mod LayoutLaws
 pub mod GoodLaws
 pub mod BadLaws

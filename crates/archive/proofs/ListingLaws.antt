@@ -16,9 +16,10 @@ use Rattle.lists.specs.Lists.{pick, at, tab, bit, howMany}
 use Rattle.lists.proofs.TabLaws.{order, length-tab, tab-at}
 use Rattle.sizes.specs.declared.Sizes.{Sizes}
 use Rattle.sizes.proofs.SizeLaws.{Ranged}
-use Rattle.archive.specs.Layout.{placeCount, placeNumber, markAt, filledIn}
+use Rattle.sizes.specs.Lengths.{placeCount, placeNumber}
+use Rattle.archive.specs.Layout.{markAt, filledIn}
 use Rattle.archive.specs.Inventory.{Listed}
-use Rattle.archive.proofs.SizeLaws.{number-low, node-of, place-of}
+use Rattle.sizes.proofs.PlaceLaws.{number-low, node-of, place-of}
 use Rattle.lists.proofs.CountLaws.{howMany-same, howMany-most, howMany-zero, howMany-more}
 
 -- the number of places, of the sizes that were read

@@ -18,9 +18,10 @@ use Rattle.answer.proofs.RefusalLaws.{refused, passed, accepted, after-done, af
 use Rattle.sizes.specs.declared.Sizes.{Sizes}
 use Rattle.sizes.specs.Sizes.{sizesOutside}
 use Rattle.sizes.proofs.SizeLaws.{Ranged, not-sizes-outside}
-use Rattle.archive.specs.Layout.{placeCount, recordLength, recordStart, sizesOf, idOf, markAt, badArchive, withMarks, stored}
+use Rattle.sizes.specs.Lengths.{placeCount, recordLength, recordStart}
+use Rattle.archive.specs.Layout.{sizesOf, idOf, markAt, badArchive, withMarks, stored}
 use Rattle.archive.specs.Calls.{lose, answerFor, archiveAnswer, effectFor, archiveAfter}
-use Rattle.archive.proofs.SizeLaws.{count-low}
+use Rattle.sizes.proofs.PlaceLaws.{count-low}
 use Rattle.archive.proofs.GoodLaws.{good-sizes, good-length}
 
 -- ---- the answer, refusal by refusal

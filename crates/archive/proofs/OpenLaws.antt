@@ -20,8 +20,10 @@ use Rattle.bits.proofs.PackLaws.{packed-length, packed-at, packed-same, bits-ze
 use Rattle.bits.proofs.AppendLaws.{holds-none, holds-more}
 use Rattle.sizes.specs.declared.Sizes.{Sizes}
 use Rattle.sizes.specs.Sizes.{sizesOutside}
-use Rattle.archive.specs.Layout.{archiveLength, recordStart, sizeFields, archiveOf, opened, openAnswer, openOut}
-use Rattle.archive.proofs.SizeLaws.{record-fits}
+use Rattle.sizes.specs.Lengths.{archiveLength, recordStart}
+use Rattle.archive.specs.Layout.{sizeFields, archiveOf}
+use Rattle.archive.specs.Open.{opened, openAnswer, openOut}
+use Rattle.sizes.proofs.PlaceLaws.{record-fits}
 use Rattle.archive.proofs.LayoutLaws.{sizes-length, length-archive, archive-front, archive-marks, archive-byte, same-bytes}
 
 -- ---- the answer

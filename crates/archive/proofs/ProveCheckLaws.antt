@@ -13,10 +13,10 @@ use Rattle.answer.specs.declared.Refusal.{Refusal}
 use Rattle.answer.specs.Refusals.{differs}
 use Rattle.answer.proofs.RefusalLaws.{accepted, same, after-done, after-refused}
 use Rattle.sizes.specs.declared.Sizes.{Sizes}
-use Rattle.message.specs.Response.{responseLength}
+use Rattle.sizes.specs.Lengths.{responseLength, blockLength, recordLength}
 use Rattle.message.proofs.ResponseLaws.{response-same}
 use Rattle.message.specs.Challenge.{challengeOf, malformedChallenge, notThere}
-use Rattle.archive.specs.Layout.{blockLength, recordLength, sizesOf, idOf, badArchive}
+use Rattle.archive.specs.Layout.{sizesOf, idOf, badArchive}
 use Rattle.archive.specs.Prove.{proveFor, proveAnswer, responseFor, namedByte, provedFor, proveOut}
 use Rattle.archive.proofs.GoodLaws.{good-sizes, good-id}
 

@@ -18,8 +18,8 @@ use Rattle.field.proofs.TimesLaws.{times-zero}
 use Rattle.sizes.specs.declared.Sizes.{Sizes}
 use Rattle.vector.specs.Vectors.{product}
 use Rattle.vector.proofs.VectorLaws.{mixed-vectors, product-same, product-right, product-zero, product-mixed}
-use Rattle.archive.specs.Layout.{placeCount, markAt, byteIn}
-use Rattle.archive.specs.Blocks.{fileLength}
+use Rattle.sizes.specs.Lengths.{placeCount, fileLength}
+use Rattle.archive.specs.Layout.{markAt, byteIn}
 use Rattle.archive.specs.Read.{rowIn, Blind, Combined, Takes, Solved}
 
 -- ---- the same for two that agree on the places there are

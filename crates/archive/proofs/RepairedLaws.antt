@@ -13,8 +13,10 @@ use Rattle.lists.proofs.PutLaws.{length-put, grid-at}
 use Rattle.answer.proofs.RefusalLaws.{accepted, after-done}
 use Rattle.sizes.specs.declared.Sizes.{Sizes}
 use Rattle.vector.specs.Vectors.{mixed}
-use Rattle.archive.specs.Layout.{recordLength, placeCount, archiveLength, placeNumber, recordStart, sizesOf, markAt, byteIn, withMarks, stored}
-use Rattle.archive.specs.Calls.{repairByte, targetByte, answerFor, archiveAnswer, effectFor, archiveAfter}
+use Rattle.sizes.specs.Lengths.{recordLength, placeCount, archiveLength, placeNumber, recordStart}
+use Rattle.archive.specs.Layout.{sizesOf, markAt, byteIn, withMarks, stored}
+use Rattle.archive.specs.Repair.{repairByte, targetByte}
+use Rattle.archive.specs.Calls.{answerFor, archiveAnswer, effectFor, archiveAfter}
 use Rattle.archive.specs.Repaired.{RepairedRows}
 use Rattle.archive.proofs.GoodLaws.{good-length}
 

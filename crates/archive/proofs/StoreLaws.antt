@@ -14,7 +14,8 @@ use Rattle.lists.proofs.OverLaws.{over-within, over-below, over-above, over-sam
 use Rattle.bits.specs.Fields.{packed}
 use Rattle.bits.proofs.PackLaws.{packed-same}
 use Rattle.sizes.specs.declared.Sizes.{Sizes}
-use Rattle.archive.specs.Layout.{placeCount, recordLength, archiveLength, recordStart, archiveOf, markAt, withMarks, stored}
+use Rattle.sizes.specs.Lengths.{placeCount, recordLength, archiveLength, recordStart}
+use Rattle.archive.specs.Layout.{archiveOf, markAt, withMarks, stored}
 use Rattle.archive.proofs.LayoutLaws.{length-archive, archive-front, archive-marks, archive-byte, mark-back, same-bytes}
 
 module _ (z : Sizes) (id : List ℕ) (e : length id ≡ 8) (mark : ℕ → Bool) (old : ℕ → ℕ → ℕ) (v : Bool) (k count : ℕ) (rec : ℕ → ℕ → ℕ)

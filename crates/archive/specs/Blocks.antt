@@ -6,14 +6,7 @@ use Rattle.lists.specs.Lists.{pick, at, bit}
 use Rattle.sizes.specs.declared.Sizes.{Sizes}
 use Rattle.vector.specs.Vectors.{mixed}
 use Rattle.tag.specs.KeyVector.{withTag}
-use Rattle.archive.specs.Layout.{blockLength}
-
--- "The file is exactly m(n−2) bytes, the padding 2m"
-abbrev pub fileLength : Sizes → ℕ
-fileLength z = z .m * (z .n - 2)
-
-abbrev pub paddingLength : Sizes → ℕ
-paddingLength z = 2 * z .m
+use Rattle.sizes.specs.Lengths.{blockLength}
 
 -- "Source block i, from 1, is the file's i-th n−2 bytes, the padding's i-th two, then m elements, all zero but a one at i":
 -- element e of block i, both counted from 0

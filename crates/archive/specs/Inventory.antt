@@ -11,7 +11,8 @@ use Rattle.answer.specs.declared.Outcome.the-variants.{Done, Refused as Refused
 use Rattle.answer.specs.declared.Refusal.the-variants.{Length, BadArchive}
 use Rattle.answer.specs.Refusals.{refuse, differs}
 use Rattle.sizes.specs.declared.Sizes.{Sizes}
-use Rattle.archive.specs.Layout.{placeCount, sizesOf, filledIn, badArchive}
+use Rattle.sizes.specs.Lengths.{placeCount}
+use Rattle.archive.specs.Layout.{sizesOf, filledIn, badArchive}
 use Rattle.answer.specs.declared.Counted.{Counted}
 use Rattle.answer.specs.declared.Counted.the-variants.{Count, Refused}
 

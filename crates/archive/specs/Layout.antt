@@ -1,40 +1,15 @@
--- Document 01, "Bytes of an archive": what Open writes, what is read back, what makes an archive bad, and one definition of a store.
-use Prim.Native.Nat.{ℕ, _+_, _*_}
+-- Document 01, "Bytes of an archive": a whole archive, what is read back, what makes an archive bad, and one definition of a store.
+use Prim.Native.Nat.{ℕ, _+_}
 use mathlib.Core.Bool.{Bool, false}
 use mathlib.Core.List.{List, [], _∷_, _++_}
 use lib.ListN.{length, take, drop}
 use lib.Dec.{leb}
 use Rattle.lists.specs.Lists.{pick, at, flat, put, grid, over, anyOf, anyBelow}
-use Rattle.answer.specs.declared.Outcome.{Outcome}
-use Rattle.answer.specs.declared.Outcome.the-variants.{Done}
-use Rattle.answer.specs.declared.Refusal.the-variants.{Size, Length}
-use Rattle.answer.specs.Refusals.{refuse, afterwards, differs}
+use Rattle.answer.specs.Refusals.{differs}
 use Rattle.bits.specs.Fields.{Field, _wide_, pack, packed, bitAt, fieldAt}
 use Rattle.sizes.specs.declared.Sizes.{Sizes}
 use Rattle.sizes.specs.Sizes.{sizesOutside}
-
--- ---- sizes and offsets
-
-abbrev pub placeCount : Sizes → ℕ
-placeCount z = z .nodes * z .places
-
--- "records of n+m+1 bytes: block, then tag"
-abbrev pub blockLength : Sizes → ℕ
-blockLength z = z .n + z .m
-
-abbrev pub recordLength : Sizes → ℕ
-recordLength z = blockLength z + 1
-
--- "The length is exactly 18+N·M(n+m+1)"
-abbrev pub archiveLength : Sizes → ℕ
-archiveLength z = 18 + placeCount z * recordLength z
-
--- the number of a node's place: records stand in the order of the marks
-abbrev pub placeNumber : Sizes → ℕ → ℕ → ℕ
-placeNumber z node place = node * z .places + place
-
-abbrev pub recordStart : Sizes → ℕ → ℕ
-recordStart z k = 18 + k * recordLength z
+use Rattle.sizes.specs.Lengths.{placeCount, recordLength, archiveLength, placeNumber, recordStart}
 
 -- ---- writing
 
@@ -88,17 +63,3 @@ withMarks mark s = put 6 12 (at (packed 6 mark)) s
 -- of the `count` places from number k on, the marks become v, and byte p of the j-th one's record becomes rec j p; all else stays
 unfoldable pub stored : Sizes → Bool → ℕ → ℕ → (ℕ → ℕ → ℕ) → List ℕ → List ℕ
 stored z v k count rec s = grid count (recordLength z) (recordStart z k) rec (withMarks (over k count (λ j. v) (markAt s)) s)
-
--- ---- Open "writes the header with no marks, and zero records. 1, a size outside its range; 2, the length of id or archive"
-
-unfoldable pub opened : Sizes → List ℕ → List ℕ
-opened z id = archiveOf z id (λ k. false) (λ k p. 0)
-
-unfoldable pub openAnswer : Sizes → List ℕ → List ℕ → Outcome
-openAnswer z id archive =
-    refuse (sizesOutside z) Size
-    (refuse (anyOf (differs (length id) 8 ∷ differs (length archive) (archiveLength z) ∷ [])) Length
-    Done)
-
-unfoldable pub openOut : Sizes → List ℕ → List ℕ → List ℕ
-openOut z id archive = afterwards (openAnswer z id archive) archive (opened z id)

@@ -1,5 +1,9 @@
 pub mod Layout
 pub mod Blocks
+pub mod Open
+pub mod Encode
+pub mod Lose
+pub mod Repair
 pub mod Calls
 pub mod Prove
 pub mod Read

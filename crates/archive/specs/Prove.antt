@@ -13,9 +13,10 @@ use Rattle.answer.specs.Refusals.{refuse, afterwards, differs}
 use Rattle.sizes.specs.declared.Sizes.{Sizes}
 use Rattle.vector.specs.Vectors.{mixed}
 use Rattle.mask.specs.Masks.{maskRow, maskCoefficient, mask, maskSum}
-use Rattle.message.specs.Response.{responseLength, responseBytes}
+use Rattle.sizes.specs.Lengths.{responseLength, blockLength, placeNumber}
+use Rattle.message.specs.Response.{responseBytes}
 use Rattle.message.specs.Challenge.{Challenge, challengeOf, malformedChallenge, notThere}
-use Rattle.archive.specs.Layout.{blockLength, placeNumber, sizesOf, idOf, filledIn, byteIn, badArchive}
+use Rattle.archive.specs.Layout.{sizesOf, idOf, filledIn, byteIn, badArchive}
 
 -- the refusals once the header and the challenge are read
 unfoldable pub proveFor : Sizes → (ℕ → ℕ → Bool) → List ℕ → List ℕ → List ℕ → Challenge → List ℕ → Outcome

@@ -13,8 +13,8 @@ use Rattle.answer.specs.declared.Refusal.the-variants.{Length, BadArchive, Unre
 use Rattle.answer.specs.Refusals.{refuse, differs}
 use Rattle.sizes.specs.declared.Sizes.{Sizes}
 use Rattle.vector.specs.Vectors.{product, mixed}
-use Rattle.archive.specs.Layout.{placeCount, sizesOf, markAt, byteIn, badArchive}
-use Rattle.archive.specs.Blocks.{fileLength}
+use Rattle.sizes.specs.Lengths.{placeCount, fileLength}
+use Rattle.archive.specs.Layout.{sizesOf, markAt, byteIn, badArchive}
 use Rattle.answer.specs.declared.Counted.{Counted}
 use Rattle.answer.specs.declared.Counted.the-variants.{Count, Refused}
 

@@ -3,8 +3,10 @@ use Prim.Native.Nat.{ℕ, _<_}
 use mathlib.Core.Path.{_≡_}
 use mathlib.Core.List.{List}
 use Rattle.answer.specs.declared.Outcome.the-variants.{Done}
-use Rattle.archive.specs.Layout.{placeNumber, sizesOf}
-use Rattle.archive.specs.Calls.{repair, archiveAnswer, archiveAfter, repairSum}
+use Rattle.sizes.specs.Lengths.{placeNumber}
+use Rattle.archive.specs.Layout.{sizesOf}
+use Rattle.archive.specs.Calls.{repair, archiveAnswer, archiveAfter}
+use Rattle.archive.specs.Repair.{repairSum}
 use Rattle.archive.specs.Read.{rowIn}
 
 -- rows are combined as data is: the stored rows of the target's places are the helpers' stored rows combined

@@ -5,33 +5,9 @@ ghost use Prim.Native.Nat.{_+_, _*_, _<_, _≤_};
 ghost use lib.ListN.{length};
 ghost use lib.Dec.{leb};
 ghost use Rattle.lists.specs.Lists.{pick, anyBelow};
-ghost use Rattle.sizes.specs.Sizes.{sizesOutside};
-ghost use Rattle.archive.specs.Layout.{recordLength, archiveLength, recordStart, sizesOf, markAt, badArchive};
+ghost use Rattle.archive.specs.Layout.{sizesOf, markAt, badArchive};
 use sizes::Sizes;
-
-// The bytes of a record: block, then tag.
-pub fn record_length(z: Sizes) -> usize
-    requires { ⌜ sizesOutside z ≡ false ⌝ }
-    ensures { λ r. ⌜ (r ≡ recordLength z) × (r ≤ 1041) ⌝ }
-{
-    z.n + z.m + 1
-}
-
-// The bytes of an archive.
-pub fn archive_length(z: Sizes) -> usize
-    requires { ⌜ sizesOutside z ≡ false ⌝ }
-    ensures { λ r. ⌜ r ≡ archiveLength z ⌝ }
-{
-    18 + z.nodes * z.places * record_length(z)
-}
-
-// Where the record of place number k starts.
-pub fn record_start(z: Sizes, k: usize) -> usize
-    requires { ⌜ (sizesOutside z ≡ false) × (k < 48) ⌝ }
-    ensures { λ r. ⌜ r ≡ recordStart z k ⌝ }
-{
-    18 + k * record_length(z)
-}
+use sizes::archive_length;
 
 // The sizes in a header.
 pub fn sizes_in(s: &[u8]) -> Sizes

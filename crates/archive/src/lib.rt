@@ -8,8 +8,6 @@ mod opening;
 ghost use Rattle.archive.specs.Repaired.{RepairedRows};
 pub use layout::bad_archive;
 pub use layout::marked;
-pub use layout::record_length;
-pub use layout::record_start;
 pub use layout::sizes_in;
 pub use listing::inventory;
 pub use losing::lose;

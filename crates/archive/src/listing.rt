@@ -2,7 +2,8 @@
 ghost use mathlib.Core.Path.{_≡_};
 ghost use mathlib.Core.Bool.{false};
 ghost use lib.ListN.{length};
-ghost use Rattle.archive.specs.Layout.{placeCount, sizesOf, filledIn, badArchive};
+ghost use Rattle.sizes.specs.Lengths.{placeCount};
+ghost use Rattle.archive.specs.Layout.{sizesOf, filledIn, badArchive};
 ghost use Rattle.archive.specs.Inventory.{Listed, InventoryAllows};
 use crate::layout::bad_archive;
 use crate::layout::marked;

@@ -5,12 +5,12 @@ ghost use Rattle.archive.specs.Layout.{sizesOf, idOf};
 ghost use Rattle.archive.specs.Calls as Calls;
 ghost use Rattle.archive.specs.Calls.{archiveAnswer, effectFor, archiveAfter};
 use crate::layout::bad_archive;
-use crate::layout::record_length;
-use crate::layout::record_start;
 use crate::layout::sizes_in;
 use crate::marks::set_marks;
 use answer::Outcome;
 use answer::Refusal;
+use sizes::record_length;
+use sizes::record_start;
 
 // The first refusal of Lose.
 fn lose_check(archive: &[u8], node: usize) -> Outcome

@@ -3,11 +3,12 @@ ghost use mathlib.Core.Path.{_≡_};
 ghost use mathlib.Core.Bool.{false};
 ghost use lib.ListN.{length};
 ghost use Rattle.sizes.specs.Sizes.{sizesOutside};
-ghost use Rattle.archive.specs.Layout.{archiveLength, opened, openAnswer, openOut};
-use crate::layout::archive_length;
+ghost use Rattle.sizes.specs.Lengths.{archiveLength};
+ghost use Rattle.archive.specs.Open.{opened, openAnswer, openOut};
 use answer::Outcome;
 use answer::Refusal;
 use sizes::Sizes;
+use sizes::archive_length;
 
 // The first refusal of Open.
 fn open_check(z: Sizes, id: &[u8], archive: &[u8]) -> Outcome

@@ -28,7 +28,8 @@ use Rattle.vector.proofs.AddedLaws.{added-zeros}
 use Rattle.linear.specs.declared.rows.Row.{Row}
 use Rattle.linear.specs.Rows.{kept}
 use Rattle.linear.proofs.KeptLaws.{row-stored, kept-same, kept-at}
-use Rattle.message.specs.Response.{responseLength, dataIn, sumIn, tagIn}
+use Rattle.sizes.specs.Lengths.{responseLength}
+use Rattle.message.specs.Response.{dataIn, sumIn, tagIn}
 use Rattle.mask.proofs.RowLaws.{vector-filled}
 use Rattle.message.specs.Challenge.{Challenge, challengeOf, malformedChallenge, notThere}
 use Rattle.audit.specs.Verdict.{verdictFor, namedRow, appended, accepts, judgement, verdictOf}

@@ -16,7 +16,8 @@ use Rattle.sizes.specs.declared.Sizes.{Sizes}
 use Rattle.sizes.specs.Sizes.{sizesOutside}
 use Rattle.vector.specs.Vectors.{product, mixed}
 use Rattle.tag.specs.KeyVector.{keyVector}
-use Rattle.message.specs.Response.{responseLength, responseHead, dataIn, sumIn, tagIn}
+use Rattle.sizes.specs.Lengths.{responseLength}
+use Rattle.message.specs.Response.{responseHead, dataIn, sumIn, tagIn}
 use Rattle.message.specs.Challenge.{Challenge, challengeOf, malformedChallenge, notThere}
 use Rattle.audit.specs.declared.Judgement.{Judgement}
 use Rattle.audit.specs.declared.Judgement.the-variants.{Accepted, Rejected, Refused}

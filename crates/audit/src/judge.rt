@@ -8,7 +8,7 @@ ghost use Rattle.answer.specs.Refusals.{Passed};
 ghost use Rattle.field.specs.Tables.{PowerTable, LogTable};
 ghost use Rattle.sizes.specs.Sizes.{sizesOutside};
 ghost use Rattle.linear.specs.Rows.{kept};
-ghost use Rattle.message.specs.Response.{responseLength};
+ghost use Rattle.sizes.specs.Lengths.{responseLength};
 ghost use Rattle.message.specs.Challenge.{challengeOf, malformedChallenge, notThere};
 ghost use Rattle.audit.specs.Verdict.{judgementNumber, verdictFor, namedRow, accepts, verdictOf};
 use crate::Judgement;

@@ -29,10 +29,11 @@ use Rattle.vector.proofs.AddedLaws.{length-added, added-at, added-below, added-
 use Rattle.linear.specs.declared.rows.Row.{Row}
 use Rattle.linear.specs.Rows.{kept}
 use Rattle.linear.proofs.KeptLaws.{kept-at}
-use Rattle.archive.specs.Layout.{blockLength, recordLength, recordStart, placeCount, placeNumber, sizesOf, idOf, markAt, withMarks, stored}
-use Rattle.archive.specs.Blocks.{fileLength, paddingLength, source, coded, codedRecord}
+use Rattle.sizes.specs.Lengths.{blockLength, recordLength, recordStart, placeCount, placeNumber, fileLength, paddingLength}
+use Rattle.archive.specs.Layout.{sizesOf, idOf, markAt, withMarks, stored}
+use Rattle.archive.specs.Blocks.{source, coded, codedRecord}
 use Rattle.archive.specs.Calls.{encode, answerFor, archiveAnswer, effectFor}
-use Rattle.archive.proofs.SizeLaws.{number-low, count-low, record-fits}
+use Rattle.sizes.proofs.PlaceLaws.{number-low, count-low, record-fits}
 use Rattle.archive.proofs.GoodLaws.{good-sizes, good-length}
 use Rattle.archive.proofs.RepairedLaws.{length-marks}
 use Rattle.archive.proofs.BlockLaws.{source-file, coded-row}

@@ -22,9 +22,11 @@ use Rattle.field.proofs.SumLaws.{sum-same, sum-rows}
 use Rattle.sizes.specs.declared.Sizes.{Sizes}
 use Rattle.vector.specs.Vectors.{mixed}
 use Rattle.sizes.proofs.SizeLaws.{Ranged}
-use Rattle.archive.specs.Layout.{recordLength, archiveLength, recordStart, placeNumber, sizesOf, idOf, markAt, byteIn, badArchive, withMarks, stored}
-use Rattle.archive.specs.Calls.{repair, answerFor, archiveAnswer, coefficient, repairByte, targetByte, effectFor, scratchMade, scratchAfter}
-use Rattle.archive.proofs.SizeLaws.{number-low, count-low, record-fits}
+use Rattle.sizes.specs.Lengths.{recordLength, archiveLength, recordStart, placeNumber}
+use Rattle.archive.specs.Layout.{sizesOf, idOf, markAt, byteIn, badArchive, withMarks, stored}
+use Rattle.archive.specs.Calls.{repair, answerFor, archiveAnswer, effectFor, scratchAfter}
+use Rattle.archive.specs.Repair.{coefficient, repairByte, targetByte, scratchMade}
+use Rattle.sizes.proofs.PlaceLaws.{number-low, count-low, record-fits}
 use Rattle.archive.proofs.GoodLaws.{good-sizes, good-length}
 
 -- ---- sizes

@@ -7,20 +7,21 @@ ghost use Rattle.lists.specs.Lists.{at, put};
 ghost use Rattle.answer.specs.Refusals.{Passed};
 ghost use Rattle.field.specs.Tables.{PowerTable, LogTable};
 ghost use Rattle.sizes.specs.Sizes.{sizesOutside};
-ghost use Rattle.archive.specs.Layout.{blockLength, sizesOf, idOf};
-ghost use Rattle.archive.specs.Blocks.{fileLength, paddingLength, coded};
+ghost use Rattle.sizes.specs.Lengths.{blockLength, fileLength, paddingLength};
+ghost use Rattle.archive.specs.Layout.{sizesOf, idOf};
+ghost use Rattle.archive.specs.Blocks.{coded};
 ghost use Rattle.archive.specs.Calls as Calls;
 ghost use Rattle.archive.specs.Calls.{archiveAnswer, effectFor, archiveAfter};
 use answer::Outcome;
 use answer::Refusal;
 use archive::bad_archive;
 use archive::marked;
-use archive::record_start;
 use archive::set_marks;
 use archive::sizes_in;
 use keystream::Stream;
 use linear::Row;
 use sizes::Sizes;
+use sizes::record_start;
 
 // The first refusal of Encode.
 fn encode_check(

@@ -9,18 +9,20 @@ ghost use Rattle.answer.specs.Refusals.{Passed};
 ghost use Rattle.sizes.specs.Sizes.{sizesOutside};
 ghost use Rattle.vector.specs.Vectors.{mixed};
 ghost use Rattle.field.specs.Tables.{PowerTable, LogTable};
-ghost use Rattle.archive.specs.Layout.{recordLength, archiveLength, recordStart, sizesOf, idOf, filledIn, badArchive};
+ghost use Rattle.sizes.specs.Lengths.{recordLength, archiveLength, recordStart};
+ghost use Rattle.archive.specs.Layout.{sizesOf, idOf, filledIn, badArchive};
 ghost use Rattle.archive.specs.Calls as Calls;
-ghost use Rattle.archive.specs.Calls.{archiveAnswer, effectFor, archiveAfter, scratchMade, scratchAfter};
+ghost use Rattle.archive.specs.Calls.{archiveAnswer, effectFor, archiveAfter, scratchAfter};
+ghost use Rattle.archive.specs.Repair.{scratchMade};
 use answer::Outcome;
 use answer::Refusal;
 use archive::bad_archive;
 use archive::marked;
-use archive::record_length;
-use archive::record_start;
 use archive::set_marks;
 use archive::sizes_in;
 use sizes::Sizes;
+use sizes::record_length;
+use sizes::record_start;
 
 // Whether a helper is no node.
 fn any_missing(helpers: &[u8], nodes: usize) -> bool

@@ -17,7 +17,8 @@ use Rattle.field.specs.Field.{plus}
 use Rattle.bits.specs.Fields.{_wide_, bitOf, bitsOf, widths, number, packed, pack, fieldAt}
 use Rattle.bits.proofs.PackLaws.{pack-length}
 use Rattle.bits.proofs.AppendLaws.{field-front}
-use Rattle.message.specs.Response.{responseLength, responseHead, responseBytes, dataIn, seedIn, sumIn, tagIn}
+use Rattle.sizes.specs.Lengths.{responseLength}
+use Rattle.message.specs.Response.{responseHead, responseBytes, dataIn, seedIn, sumIn, tagIn}
 
 pub head-length : (node : ℕ) → length (responseHead node) ≡ 1
 unfolding widths

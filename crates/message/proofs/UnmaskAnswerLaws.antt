@@ -17,7 +17,8 @@ use Rattle.field.specs.Field.{plus}
 use Rattle.vector.specs.Vectors.{added}
 use Rattle.vector.proofs.AddedLaws.{length-added, added-at}
 use Rattle.mask.specs.Masks.{maskRow, maskCoefficient, mask}
-use Rattle.message.specs.Response.{responseLength, dataIn, seedIn}
+use Rattle.sizes.specs.Lengths.{responseLength}
+use Rattle.message.specs.Response.{dataIn, seedIn}
 use Rattle.message.specs.Unmask.{unmaskAnswer, unmasked, unmaskOut}
 
 module _ (n : ℕ) (id maskKey response out : List ℕ) {o : Outcome} (answer : o ≡ unmaskAnswer n id maskKey response out) where

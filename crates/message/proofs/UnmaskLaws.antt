@@ -17,7 +17,8 @@ use Rattle.field.proofs.XorLaws.{xor-undo}
 use Rattle.bits.specs.Fields.{_wide_, widths, fieldAt}
 use Rattle.bits.proofs.PackLaws.{pack-field}
 use Rattle.mask.specs.Masks.{maskRow, maskCoefficient, mask}
-use Rattle.message.specs.Response.{responseLength, responseHead, responseBytes}
+use Rattle.sizes.specs.Lengths.{responseLength}
+use Rattle.message.specs.Response.{responseHead, responseBytes}
 use Rattle.message.specs.Unmask.{unmaskAnswer, unmasked, unmaskOut}
 use Rattle.message.proofs.ResponseLaws.{response-length, response-fields, response-seed, response-data}
 

@@ -8,9 +8,6 @@ use Rattle.lists.specs.Lists.{pick, at, tab}
 use Rattle.field.specs.Field.{plus}
 use Rattle.bits.specs.Fields.{_wide_, pack}
 
-abbrev pub responseLength : ℕ → ℕ
-responseLength n = n + 14
-
 -- its first byte, for a node (document 01: box)
 abbrev pub responseHead : ℕ → List ℕ
 responseHead node = pack ((4 wide 2) ∷ (3 wide node) ∷ (1 wide 0) ∷ [])

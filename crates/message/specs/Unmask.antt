@@ -12,7 +12,8 @@ use Rattle.field.specs.Field.{plus}
 use Rattle.bits.specs.Fields.{fieldAt}
 use Rattle.sizes.specs.Sizes.{nOutside}
 use Rattle.mask.specs.Masks.{maskRow, maskCoefficient, mask}
-use Rattle.message.specs.Response.{responseLength, dataIn, seedIn}
+use Rattle.sizes.specs.Lengths.{responseLength}
+use Rattle.message.specs.Response.{dataIn, seedIn}
 
 -- Unmask "takes n, id, mask key and response, and writes n−2 bytes": "1, n; 2, a length; 9, first byte not kind 2, a box up to 5
 -- and a zero bit"

@@ -3,7 +3,7 @@ ghost use mathlib.Core.Path.{_≡_};
 ghost use Prim.Native.Nat.{_-_, _≤_};
 ghost use lib.ListN.{length};
 ghost use Rattle.lists.specs.Lists.{tab};
-ghost use Rattle.message.specs.Response.{responseLength};
+ghost use Rattle.sizes.specs.Lengths.{responseLength};
 ghost use Rattle.message.specs.Unmask.{unmaskAnswer, unmasked, unmaskOut};
 use answer::Outcome;
 use answer::Refusal;

@@ -21,7 +21,8 @@ use Rattle.tag.specs.KeyVector.{withTag, keyVector}
 use Rattle.vector.proofs.VectorLaws.{mixed-mixed, mixed-vectors, mixed-lt, product-same, product-left, product-cut}
 use Rattle.tag.proofs.TagLaws.{tags-combine}
 use Rattle.mask.specs.Masks.{maskRow, maskCoefficient, auxiliary, mask, maskSum}
-use Rattle.message.specs.Response.{responseLength, responseHead, sumIn, tagIn}
+use Rattle.sizes.specs.Lengths.{responseLength, blockLength, recordLength}
+use Rattle.message.specs.Response.{responseHead, sumIn, tagIn}
 use Rattle.mask.proofs.MaskLaws.{length-auxiliary, mask-sum}
 use Rattle.message.proofs.ResponseLaws.{response-length, response-first, response-sum, response-tag, response-data, response-same}
 use Rattle.message.specs.Challenge.{Challenge, challengeOf, malformedChallenge}
@@ -29,7 +30,7 @@ use Rattle.audit.specs.Verdict.{verdictFor, appended, accepts, judgement, verdi
 use Rattle.audit.specs.declared.Judgement.the-variants.{Accepted, Rejected}
 use Rattle.message.proofs.ChallengeLaws.{in-rule, challenge-back, well-formed, asked-even, asked-rule, asked-bytes}
 use Rattle.audit.proofs.VerdictLaws.{altered}
-use Rattle.archive.specs.Layout.{blockLength, recordLength, filledIn}
+use Rattle.archive.specs.Layout.{filledIn}
 use Rattle.archive.specs.Blocks.{source, coded}
 use Rattle.archive.specs.Prove.{proveFor, proveAnswer, responseFor, namedByte, provedFor, proveOut}
 use Rattle.sizes.proofs.SizeLaws.{not-sizes-outside}

@@ -10,7 +10,8 @@ use Rattle.lists.proofs.AnyLaws.{any-first, any-rest}
 use Rattle.answer.specs.Refusals.{afterwards}
 use Rattle.answer.proofs.RefusalLaws.{accepted, same}
 use Rattle.mask.specs.Setup.{setupAnswer, setupOut}
-use Rattle.archive.specs.Layout.{placeNumber, blockLength, openAnswer, openOut}
+use Rattle.sizes.specs.Lengths.{placeNumber, blockLength}
+use Rattle.archive.specs.Open.{openAnswer, openOut}
 use Rattle.archive.specs.Calls.{Call, archiveAnswers, archiveRun}
 use Rattle.archive.specs.Read.{rowIn}
 use Rattle.sizes.proofs.SizeLaws.{ranged}

@@ -17,15 +17,16 @@ use Rattle.field.specs.Field.{times}
 use Rattle.field.proofs.SumLaws.{sum-same}
 use Rattle.sizes.specs.declared.Sizes.{Sizes}
 use Rattle.vector.specs.Vectors.{product, mixed}
-use Rattle.archive.specs.Layout.{placeCount, markAt, byteIn, badArchive}
-use Rattle.archive.specs.Blocks.{fileLength, coded}
+use Rattle.sizes.specs.Lengths.{placeCount, fileLength}
+use Rattle.archive.specs.Layout.{markAt, byteIn, badArchive}
+use Rattle.archive.specs.Blocks.{coded}
 use Rattle.archive.specs.Read.{rowIn, Blind, among, Enough, ReadFor, ReadAllows}
 use Rattle.archive.specs.Inventory.{Listed, InventoryFor, InventoryAllows}
 use Rattle.answer.specs.Counted.{countedNumber, countedValue}
 use Rattle.answer.specs.declared.Counted.{Counted}
 use Rattle.answer.specs.declared.Counted.the-variants.{Count, Refused}
 use Rattle.sizes.proofs.SizeLaws.{Ranged}
-use Rattle.archive.proofs.SizeLaws.{count-low, node-of, place-of}
+use Rattle.sizes.proofs.PlaceLaws.{count-low, node-of, place-of}
 use Rattle.archive.proofs.BlockLaws.{source-file}
 use Rattle.lists.proofs.CountLaws.{howMany-same}
 use Rattle.archive.proofs.ReadLaws.{blind-same, solution-only}

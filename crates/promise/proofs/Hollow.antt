@@ -18,7 +18,8 @@ use Rattle.vector.specs.Vectors.{product, mixed}
 use Rattle.mask.specs.Masks.{F2, maskRow, auxiliary, mask, maskSum}
 use Rattle.message.specs.Response.{responseBytes, dataIn}
 use Rattle.audit.specs.Verdict.{namedRow, appended, accepts}
-use Rattle.archive.specs.Layout.{recordLength, placeCount, placeNumber, sizesOf, markAt, byteIn}
+use Rattle.sizes.specs.Lengths.{recordLength, placeCount, placeNumber}
+use Rattle.archive.specs.Layout.{sizesOf, markAt, byteIn}
 use Rattle.archive.specs.Blocks.{source, coded}
 use Rattle.archive.specs.Calls.{answerFor, archiveAnswer, archiveAfter}
 use Rattle.archive.specs.Prove.{namedByte}

@@ -17,12 +17,14 @@ use Rattle.vector.specs.Vectors.{product, mixed}
 use Rattle.tag.specs.KeyVector.{withTag}
 use Rattle.vector.proofs.VectorLaws.{mixed-scale, mixed-sum, mixed-same, mixed-zero}
 use Rattle.tag.proofs.TagLaws.{tags-combine}
-use Rattle.archive.specs.Layout.{placeCount, blockLength, recordLength, placeNumber, sizesOf, idOf, markAt, filledIn, byteIn, badArchive, stored, opened}
+use Rattle.sizes.specs.Lengths.{placeCount, blockLength, recordLength, placeNumber}
+use Rattle.archive.specs.Layout.{sizesOf, idOf, markAt, filledIn, byteIn, badArchive, stored}
+use Rattle.archive.specs.Open.{opened}
 use Rattle.archive.specs.Blocks.{source, coded, codedRecord}
-use Rattle.archive.specs.Calls.{repairSum, repairByte, targetByte}
+use Rattle.archive.specs.Repair.{repairSum, repairByte, targetByte}
 use Rattle.archive.specs.Read.{rowIn}
 use Rattle.sizes.proofs.SizeLaws.{Ranged}
-use Rattle.archive.proofs.SizeLaws.{number-low, count-low}
+use Rattle.sizes.proofs.PlaceLaws.{number-low, count-low}
 use Rattle.archive.proofs.LayoutLaws.{id-back, byte-back, mark-back, sizes-back, good-back, archive-same}
 use Rattle.archive.proofs.StoreLaws.{stored-is}
 use Rattle.archive.proofs.BlockLaws.{coded-row}

@@ -21,7 +21,8 @@ use Rattle.mask.specs.Masks.{F2, F3, maskRow, maskCoefficient, auxiliary, mask,
 use Rattle.mask.specs.Setup.{setupAnswer, setupOut}
 use Rattle.message.specs.Response.{responseBytes}
 use Rattle.message.specs.Challenge.{Challenge, items, challengeBytes, outOfRule, challengeAnswer, challengeOut}
-use Rattle.archive.specs.Layout.{archiveOf, openAnswer}
+use Rattle.archive.specs.Layout.{archiveOf}
+use Rattle.archive.specs.Open.{openAnswer}
 use Rattle.archive.specs.Blocks.{source, coded, codedRecord}
 use Rattle.archive.specs.Calls.{answerFor}
 use Rattle.archive.specs.Prove.{responseFor}

@@ -13,7 +13,8 @@ use Rattle.sizes.specs.declared.Sizes.{Sizes}
 use Rattle.sizes.specs.Sizes.{sizesOutside}
 use Rattle.message.specs.Challenge.{Challenge, challengeOf, malformedChallenge, challengeAnswer, challengeOut}
 use Rattle.message.proofs.ChallengeLaws.{in-rule, asked-even, asked-rule, asked-bytes, challenge-back as read-back, well-formed}
-use Rattle.archive.specs.Layout.{sizesOf, markAt, filledIn, badFor, openAnswer}
+use Rattle.archive.specs.Layout.{sizesOf, markAt, filledIn, badFor}
+use Rattle.archive.specs.Open.{openAnswer}
 use Rattle.archive.specs.Inventory.{inventoryBefore, InventoryFor, InventoryAllows}
 use Rattle.answer.specs.declared.Counted.the-variants.{Count}
 use Rattle.sizes.proofs.SizeLaws.{ranged}

@@ -9,7 +9,8 @@ use Rattle.message.specs.Response.{responseBytes}
 use Rattle.message.proofs.UnmaskLaws.{unmask-gives}
 use Rattle.message.specs.Challenge.{challengeOf}
 use Rattle.message.proofs.ReadLaws.{readable}
-use Rattle.archive.specs.Layout.{blockLength, sizesOf, idOf}
+use Rattle.sizes.specs.Lengths.{blockLength}
+use Rattle.archive.specs.Layout.{sizesOf, idOf}
 use Rattle.archive.specs.Prove.{proveAnswer, responseFor, namedByte, provedFor, proveOut}
 use Rattle.archive.proofs.GoodLaws.{good-sizes, good-id}
 use Rattle.archive.proofs.ProveCheckLaws.{provable}

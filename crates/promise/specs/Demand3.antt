@@ -12,13 +12,15 @@ use Rattle.field.specs.Field.{plus}
 use Rattle.sizes.specs.declared.Sizes.{Sizes}
 use Rattle.vector.specs.Vectors.{product, mixed}
 use Rattle.mask.specs.Setup.{setupAnswer, setupOut}
-use Rattle.message.specs.Response.{responseLength, dataIn, sumIn, tagIn}
+use Rattle.sizes.specs.Lengths.{responseLength, placeCount, blockLength, placeNumber, fileLength, paddingLength}
+use Rattle.message.specs.Response.{dataIn, sumIn, tagIn}
 use Rattle.message.specs.Challenge.{Challenge, challengeAnswer, challengeOut}
 use Rattle.audit.specs.Verdict.{verdictOf}
 use Rattle.audit.specs.declared.Judgement.{Judgement}
 use Rattle.audit.specs.declared.Judgement.the-variants.{Accepted, Rejected}
-use Rattle.archive.specs.Layout.{placeCount, blockLength, placeNumber, markAt, byteIn, openAnswer, openOut}
-use Rattle.archive.specs.Blocks.{fileLength, paddingLength, coded}
+use Rattle.archive.specs.Layout.{markAt, byteIn}
+use Rattle.archive.specs.Open.{openAnswer, openOut}
+use Rattle.archive.specs.Blocks.{coded}
 use Rattle.archive.specs.Calls.{Call, encode, lose, repair, archiveAnswers, archiveRun}
 use Rattle.archive.specs.Prove.{proveAnswer, responseFor, proveOut}
 use Rattle.archive.specs.Read.{rowIn, Blind, Enough, ReadAllows}

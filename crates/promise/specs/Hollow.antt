@@ -13,7 +13,9 @@ use Rattle.vector.specs.Vectors.{product}
 use Rattle.mask.specs.Masks.{maskRow}
 use Rattle.message.specs.Response.{tagIn}
 use Rattle.audit.specs.Verdict.{namedRow, appended, accepts}
-use Rattle.archive.specs.Layout.{recordLength, placeNumber, placeCount, sizesOf, markAt, byteIn, openOut}
+use Rattle.sizes.specs.Lengths.{recordLength, placeNumber, placeCount}
+use Rattle.archive.specs.Layout.{sizesOf, markAt, byteIn}
+use Rattle.archive.specs.Open.{openOut}
 use Rattle.archive.specs.Calls.{Call, encode, archiveAnswer, archiveAfter}
 use Rattle.archive.specs.Read.{rowIn, Blind, Enough, ReadAllows}
 use Rattle.archive.specs.Inventory.{InventoryAllows}

@@ -10,7 +10,7 @@ use Rattle.sizes.specs.declared.Sizes.{Sizes}
 use Rattle.tag.specs.Vector.{vectorOut}
 use Rattle.mask.specs.Setup.{setupAnswer}
 use Rattle.audit.specs.declared.Judgement.the-variants.{Accepted}
-use Rattle.archive.specs.Layout.{openAnswer, openOut}
+use Rattle.archive.specs.Open.{openAnswer, openOut}
 use Rattle.archive.specs.Calls.{Call, encode, lose, repair, archiveAnswers, archiveRun}
 use Rattle.promise.specs.Table.{Table, allEmpty, tableRun}
 use Rattle.promise.specs.Demand3.{Given, elements, Admitted, Honest, message, sent, says}

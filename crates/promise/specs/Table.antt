@@ -8,8 +8,9 @@ use Rattle.lists.specs.Lists.{pick, at, tab, over}
 use Rattle.answer.specs.declared.Outcome.{Outcome}
 use Rattle.answer.specs.Refusals.{afterwards}
 use Rattle.sizes.specs.declared.Sizes.{Sizes}
-use Rattle.archive.specs.Layout.{placeCount}
-use Rattle.archive.specs.Calls.{Call, encode, lose, repair, repairSum, answerFor}
+use Rattle.sizes.specs.Lengths.{placeCount}
+use Rattle.archive.specs.Calls.{Call, encode, lose, repair, answerFor}
+use Rattle.archive.specs.Repair.{repairSum}
 
 -- "Its state: for each place, empty or a row of m elements"
 pub data Place : Type 0 where

@@ -10,7 +10,9 @@ use Rattle.bits.specs.Fields.{pack, packed}
 use Rattle.sizes.specs.declared.Sizes.{Sizes}
 use Rattle.sizes.specs.Sizes.{sizesOutside}
 use Rattle.message.specs.Challenge.{Challenge, challengeOf, malformedChallenge, challengeAnswer, challengeOut}
-use Rattle.archive.specs.Layout.{archiveLength, sizeFields, badArchive, opened, openAnswer}
+use Rattle.sizes.specs.Lengths.{archiveLength}
+use Rattle.archive.specs.Layout.{sizeFields, badArchive}
+use Rattle.archive.specs.Open.{opened, openAnswer}
 use Rattle.lists.specs.Lists.{Bytes}
 use Rattle.archive.specs.Inventory.{InventoryAllows}
 use Rattle.answer.specs.declared.Counted.the-variants.{Count}

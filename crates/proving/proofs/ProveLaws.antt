@@ -20,9 +20,10 @@ use Rattle.vector.specs.Vectors.{added}
 use Rattle.message.specs.Challenge.{Challenge, challengeBits, challengeOf, malformedChallenge, notThere}
 use Rattle.message.proofs.ReadLaws.{readable}
 use Rattle.message.proofs.NamedLaws.{firstNamed, place-there, named-read}
-use Rattle.archive.specs.Layout.{placeCount, recordLength, placeNumber, recordStart, sizesOf, filledIn, byteIn, badArchive}
+use Rattle.sizes.specs.Lengths.{placeCount, recordLength, placeNumber, recordStart}
+use Rattle.archive.specs.Layout.{sizesOf, filledIn, byteIn, badArchive}
 use Rattle.archive.specs.Prove.{proveFor, proveAnswer, namedByte}
-use Rattle.archive.proofs.SizeLaws.{number-low, count-low, record-fits}
+use Rattle.sizes.proofs.PlaceLaws.{number-low, count-low, record-fits}
 use Rattle.archive.proofs.GoodLaws.{good-sizes, good-length}
 use Rattle.archive.proofs.ProveCheckLaws.{lengths-read}
 

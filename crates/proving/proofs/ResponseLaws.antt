@@ -11,7 +11,8 @@ use Rattle.field.specs.Field.{plus}
 use Rattle.vector.specs.Vectors.{added}
 use Rattle.vector.proofs.AddedLaws.{length-added, added-at, added-below}
 use Rattle.mask.specs.Masks.{maskRow, maskCoefficient, mask, maskSum}
-use Rattle.message.specs.Response.{responseLength, responseHead, responseBytes}
+use Rattle.sizes.specs.Lengths.{responseLength}
+use Rattle.message.specs.Response.{responseHead, responseBytes}
 use Rattle.message.proofs.ResponseLaws.{is-response}
 use Rattle.archive.specs.Prove.{responseFor}
 

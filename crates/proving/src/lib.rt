@@ -6,17 +6,17 @@ ghost use lib.ListN.{length};
 ghost use Rattle.lists.specs.Lists.{at, anyBelow};
 ghost use Rattle.answer.specs.Refusals.{Passed};
 ghost use Rattle.field.specs.Tables.{PowerTable, LogTable};
-ghost use Rattle.message.specs.Response.{responseLength};
+ghost use Rattle.sizes.specs.Lengths.{responseLength, recordLength};
 ghost use Rattle.message.specs.Challenge.{challengeOf, malformedChallenge, notThere};
-ghost use Rattle.archive.specs.Layout.{recordLength, sizesOf, idOf, filledIn, badArchive};
+ghost use Rattle.archive.specs.Layout.{sizesOf, idOf, filledIn, badArchive};
 ghost use Rattle.archive.specs.Prove.{proveAnswer, responseFor, namedByte, provedFor, proveOut};
 use answer::Outcome;
 use answer::Refusal;
 use archive::bad_archive;
 use archive::marked;
-use archive::record_length;
-use archive::record_start;
 use archive::sizes_in;
+use sizes::record_length;
+use sizes::record_start;
 
 // Whether a named place is empty.
 fn any_named_empty(archive: &[u8], message: &[u8]) -> bool

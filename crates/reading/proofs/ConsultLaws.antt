@@ -12,7 +12,8 @@ use Rattle.sizes.specs.Sizes.{sizesOutside}
 use Rattle.sizes.proofs.SizeLaws.{ranged}
 use Rattle.linear.specs.Elimination.{Matrix, Reduces}
 use Rattle.linear.proofs.SameLaws.{reduces-same}
-use Rattle.archive.specs.Layout.{placeCount, markAt}
+use Rattle.sizes.specs.Lengths.{placeCount}
+use Rattle.archive.specs.Layout.{markAt}
 use Rattle.reading.specs.declared.Chosen.{Chosen}
 use Rattle.reading.specs.Choice.{Choice}
 use Rattle.reading.proofs.RowLaws.{place-low}

@@ -18,7 +18,7 @@ use Rattle.sizes.proofs.SizeLaws.{Ranged}
 use Rattle.vector.proofs.VectorLaws.{mixed-lt, product-keys}
 use Rattle.linear.specs.Elimination.{Matrix, Reduces}
 use Rattle.archive.specs.Layout.{sizesOf, byteIn, badArchive}
-use Rattle.archive.specs.Blocks.{fileLength}
+use Rattle.sizes.specs.Lengths.{fileLength}
 use Rattle.archive.specs.Read.{rowIn, Solved, readBefore, ReadFor, ReadAllows}
 use Rattle.answer.specs.declared.Counted.the-variants.{Count, Refused}
 use Rattle.archive.proofs.CallLaws.{read-sizes}

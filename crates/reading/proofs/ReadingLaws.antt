@@ -12,7 +12,8 @@ use Rattle.sizes.specs.declared.Sizes.{Sizes}
 use Rattle.vector.specs.Vectors.{product, mixed}
 use Rattle.linear.specs.Elimination.{Matrix, Orthogonal, Reduces}
 use Rattle.linear.proofs.SameLaws.{spans}
-use Rattle.archive.specs.Layout.{placeCount, markAt, byteIn}
+use Rattle.sizes.specs.Lengths.{placeCount}
+use Rattle.archive.specs.Layout.{markAt, byteIn}
 use Rattle.archive.specs.Read.{rowIn, Blind, Combined, Takes, among, Enough}
 use Rattle.archive.proofs.ReadLaws.{filled-zero}
 use Rattle.reading.specs.declared.Chosen.{Chosen}

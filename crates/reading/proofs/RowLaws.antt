@@ -11,9 +11,10 @@ use Rattle.sizes.proofs.SizeLaws.{ranged}
 use Rattle.linear.specs.declared.rows.Row.{Row}
 use Rattle.linear.specs.Rows.{kept}
 use Rattle.linear.proofs.KeptLaws.{kept-same}
-use Rattle.archive.specs.Layout.{placeCount, recordStart, byteIn}
+use Rattle.sizes.specs.Lengths.{placeCount, recordStart}
+use Rattle.archive.specs.Layout.{byteIn}
 use Rattle.archive.specs.Read.{rowIn}
-use Rattle.archive.proofs.SizeLaws.{count-low}
+use Rattle.sizes.proofs.PlaceLaws.{count-low}
 
 -- there are at most 48 places
 pub place-low : (z : Sizes) (k : ℕ) → sizesOutside z ≡ false → k < placeCount z → k < 48

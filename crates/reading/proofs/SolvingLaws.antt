@@ -13,9 +13,9 @@ use Rattle.sizes.specs.Sizes.{sizesOutside}
 use Rattle.vector.specs.Vectors.{mixed, added}
 use Rattle.sizes.proofs.SizeLaws.{Ranged, ranged}
 use Rattle.vector.proofs.AddedLaws.{mixed-more}
-use Rattle.archive.specs.Layout.{placeCount, recordStart, byteIn, archiveLength}
-use Rattle.archive.specs.Blocks.{fileLength}
-use Rattle.archive.proofs.SizeLaws.{record-fits}
+use Rattle.sizes.specs.Lengths.{placeCount, recordStart, archiveLength, fileLength}
+use Rattle.archive.specs.Layout.{byteIn}
+use Rattle.sizes.proofs.PlaceLaws.{record-fits}
 
 -- the data of a place lies in the archive
 pub data-fits : (z : Sizes) {n p k start : ℕ} → p < placeCount z → k ≡ p → start ≡ recordStart z k → n ≡ archiveLength z → start + (z .n - 2) ≤ n

@@ -7,7 +7,8 @@ use mathlib.Core.List.{List}
 use Rattle.lists.specs.Lists.{at, howMany}
 use Rattle.sizes.specs.declared.Sizes.{Sizes}
 use Rattle.linear.specs.Elimination.{Independent}
-use Rattle.archive.specs.Layout.{placeCount, markAt}
+use Rattle.sizes.specs.Lengths.{placeCount}
+use Rattle.archive.specs.Layout.{markAt}
 use Rattle.archive.specs.Read.{rowIn, Takes}
 use Rattle.reading.specs.declared.Chosen.{Chosen}
 

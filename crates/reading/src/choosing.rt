@@ -7,7 +7,8 @@ ghost use Rattle.lists.specs.Lists.{at};
 ghost use Rattle.sizes.specs.Sizes.{sizesOutside};
 ghost use Rattle.linear.specs.Rows.{kept};
 ghost use Rattle.linear.specs.Elimination.{cells};
-ghost use Rattle.archive.specs.Layout.{placeCount, archiveLength, sizesOf, badArchive};
+ghost use Rattle.sizes.specs.Lengths.{placeCount, archiveLength};
+ghost use Rattle.archive.specs.Layout.{sizesOf, badArchive};
 ghost use Rattle.archive.specs.Read.{rowIn};
 ghost use Rattle.reading.specs.Choice.{Choice, Complete};
 use crate::Chosen;
@@ -19,7 +20,7 @@ fn row_at(archive: &[u8], z: Sizes, k: usize) -> Row
     requires { ⌜ (sizesOutside z ≡ false) × (k < placeCount z) × (length (now archive) ≡ archiveLength z) ⌝ }
     ensures { λ r. ⌜ r ≡ kept (z .m) (rowIn z (now (archive .entry)) k) ⌝ }
 {
-    linear::row_from(archive, archive::record_start(z, k) + z.n, z.m)
+    linear::row_from(archive, sizes::record_start(z, k) + z.n, z.m)
 }
 
 // The rows of the first `count` of these places.

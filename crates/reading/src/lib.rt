@@ -6,7 +6,7 @@ ghost use mathlib.Core.Path.{_≡_};
 ghost use mathlib.Core.Bool.{false};
 ghost use lib.ListN.{length};
 ghost use Rattle.archive.specs.Layout.{sizesOf, badArchive};
-ghost use Rattle.archive.specs.Blocks.{fileLength};
+ghost use Rattle.sizes.specs.Lengths.{fileLength};
 ghost use Rattle.archive.specs.Read.{ReadAllows};
 use answer::Counted;
 use answer::Refusal;

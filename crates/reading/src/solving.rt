@@ -8,8 +8,8 @@ ghost use Rattle.field.specs.Tables.{PowerTable, LogTable};
 ghost use Rattle.sizes.specs.Sizes.{sizesOutside};
 ghost use Rattle.vector.specs.Vectors.{mixed, added};
 ghost use Rattle.linear.specs.Elimination.{cells};
-ghost use Rattle.archive.specs.Layout.{placeCount, archiveLength, byteIn};
-ghost use Rattle.archive.specs.Blocks.{fileLength};
+ghost use Rattle.sizes.specs.Lengths.{placeCount, archiveLength, fileLength};
+ghost use Rattle.archive.specs.Layout.{byteIn};
 use sizes::Sizes;
 
 // To the n - 2 bytes from `from` on, the data of m places is added, each times its coefficient.
@@ -28,7 +28,7 @@ fn add_places(
 {
     let len = z.n - 2;
     for t in 0..z.m {
-        let start = archive::record_start(z, lists::widen(places[t]));
+        let start = sizes::record_start(z, lists::widen(places[t]));
         vector::add_multiple(
             powers,
             logs,

@@ -1,6 +1,9 @@
-// The sizes of an archive and their ranges.
+// The sizes of an archive, their ranges, and the lengths that they make.
 ghost use mathlib.Core.Path.{_≡_};
+ghost use mathlib.Core.Bool.{false};
+ghost use Prim.Native.Nat.{_<_, _≤_};
 ghost use Rattle.sizes.specs.Sizes.{sizesOutside};
+ghost use Rattle.sizes.specs.Lengths.{recordLength, archiveLength, recordStart};
 
 // n, m, the places of a node and the nodes. Document 01: n, m, M (places a box), N (boxes).
 pub struct Sizes {
@@ -18,4 +21,28 @@ pub fn sizes_outside(z: Sizes) -> bool
         | answer::outside(1, 16, z.m)
         | answer::outside(1, 8, z.places)
         | answer::outside(1, 6, z.nodes)
+}
+
+// The bytes of a record: block, then tag.
+pub fn record_length(z: Sizes) -> usize
+    requires { ⌜ sizesOutside z ≡ false ⌝ }
+    ensures { λ r. ⌜ (r ≡ recordLength z) × (r ≤ 1041) ⌝ }
+{
+    z.n + z.m + 1
+}
+
+// The bytes of an archive.
+pub fn archive_length(z: Sizes) -> usize
+    requires { ⌜ sizesOutside z ≡ false ⌝ }
+    ensures { λ r. ⌜ r ≡ archiveLength z ⌝ }
+{
+    18 + z.nodes * z.places * record_length(z)
+}
+
+// Where the record of place number k starts.
+pub fn record_start(z: Sizes, k: usize) -> usize
+    requires { ⌜ (sizesOutside z ≡ false) × (k < 48) ⌝ }
+    ensures { λ r. ⌜ r ≡ recordStart z k ⌝ }
+{
+    18 + k * record_length(z)
 }

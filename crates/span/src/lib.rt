@@ -12,7 +12,7 @@ ghost use Rattle.mask.specs.Setup.{setupAnswer, setupOut};
 ghost use Rattle.message.specs.Unmask.{unmaskAnswer, unmaskOut};
 ghost use Rattle.message.specs.Challenge.{challengeFor, challengeAnswer, challengeOut};
 ghost use Rattle.audit.specs.Verdict.{judgementNumber, verdictOf};
-ghost use Rattle.archive.specs.Layout.{openAnswer, openOut};
+ghost use Rattle.archive.specs.Open.{openAnswer, openOut};
 ghost use Rattle.archive.specs.Calls as Calls;
 ghost use Rattle.archive.specs.Calls.{archiveAnswer, archiveAfter, scratchAfter};
 ghost use Rattle.archive.specs.Prove.{proveAnswer, proveOut};

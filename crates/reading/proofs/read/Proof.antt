@@ -3,7 +3,7 @@ use mathlib.Core.Path.{refl, sym, ap, _∙_}
 use mathlib.Core.Logic.{inl}
 use native.Mathlib.Omega.{arith}
 use Rattle.answer.proofs.RefusalLaws.{refused, passed, differs-other}
-use Rattle.archive.specs.Blocks.{fileLength}
+use Rattle.sizes.specs.Lengths.{fileLength}
 use Rattle.archive.proofs.GoodLaws.{good-length}
 use Rattle.archive.proofs.CallLaws.{read-sizes}
 use Rattle.reading.proofs.SolvingLaws.{file-low}

@@ -2,7 +2,7 @@ use borrow.Author.Needs.{needs}
 use mathlib.Core.Path.{sym, ap, _∙_}
 use native.Mathlib.Omega.{arith}
 use Rattle.sizes.proofs.SizeLaws.{not-sizes-outside}
-use Rattle.archive.specs.Blocks.{fileLength}
+use Rattle.sizes.specs.Lengths.{fileLength}
 use Rattle.archive.proofs.GoodLaws.{good-length}
 use Rattle.archive.proofs.CallLaws.{read-sizes, read-length}
 use Rattle.linear.proofs.SameLaws.{reduces-same}

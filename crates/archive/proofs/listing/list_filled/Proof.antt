@@ -5,8 +5,9 @@ use mathlib.Core.Path.{_≡_, sym, ap, _∙_}
 use mathlib.Core.Logic.{⊎-elim}
 use native.Mathlib.Omega.{arith}
 use Rattle.sizes.specs.declared.Sizes.{Sizes}
-use Rattle.archive.specs.Layout.{placeCount, sizesOf}
-use Rattle.archive.proofs.SizeLaws.{count-low}
+use Rattle.sizes.specs.Lengths.{placeCount}
+use Rattle.archive.specs.Layout.{sizesOf}
+use Rattle.sizes.proofs.PlaceLaws.{count-low}
 use Rattle.archive.proofs.GoodLaws.{good-sizes, good-length}
 use Rattle.archive.proofs.ListingLaws.{Listing, count-read, few, parts-low, listing-none, listing-skip, listing-take, listing-all}
 use Rattle.archive.proofs.listing.list_filled.Statement.{statement}

@@ -1,7 +1,7 @@
 use borrow.Author.Needs.{needs}
 use mathlib.Core.Path.{sym, _∙_}
 use Rattle.answer.proofs.RefusalLaws.{refused, passed}
-use Rattle.archive.specs.Layout.{openAnswer}
+use Rattle.archive.specs.Open.{openAnswer}
 use Rattle.archive.proofs.OpenLaws.{lengths-tested}
 use Rattle.archive.proofs.opening.open_check.Statement.{statement}
 use Rattle.archive.proofs.opening.open_check.Tie as tie

@@ -9,7 +9,7 @@ use Rattle.lists.proofs.PutLaws.{grid-none}
 use Rattle.vector.specs.Vectors.{mixed}
 use Rattle.sizes.proofs.SizeLaws.{ranged}
 use Rattle.vector.proofs.AddedLaws.{row-made}
-use Rattle.archive.specs.Layout.{recordStart}
+use Rattle.sizes.specs.Lengths.{recordStart}
 use Rattle.coding.proofs.RepairLaws.{number-mark, record-in, records-in, record-from, record-made}
 use Rattle.coding.proofs.repairing.target_records.Statement.{statement}
 use Rattle.coding.proofs.repairing.target_records.Tie as tie

@@ -5,8 +5,8 @@ use mathlib.Core.Path.{_≡_, refl}
 use mathlib.Core.Logic.{inl, inr}
 use native.Mathlib.Omega.{arith}
 use Rattle.sizes.proofs.SizeLaws.{not-sizes-outside}
-use Rattle.archive.specs.Layout.{placeCount}
-use Rattle.archive.proofs.SizeLaws.{count-low}
+use Rattle.sizes.specs.Lengths.{placeCount}
+use Rattle.sizes.proofs.PlaceLaws.{count-low}
 use Rattle.archive.proofs.CallLaws.{read-sizes, read-length}
 use Rattle.reading.specs.Choice.{Choice}
 use Rattle.reading.proofs.ChoiceLaws.{choice-none}

@@ -8,7 +8,7 @@ use Rattle.vector.specs.Vectors.{mixed, added}
 use Rattle.sizes.proofs.SizeLaws.{ranged}
 use Rattle.vector.proofs.AddedLaws.{mixed-none}
 use Rattle.archive.specs.Layout.{byteIn}
-use Rattle.archive.proofs.SizeLaws.{count-low}
+use Rattle.sizes.proofs.PlaceLaws.{count-low}
 use Rattle.reading.proofs.SolvingLaws.{data-fits, place-added}
 use Rattle.reading.proofs.solving.add_places.Statement.{statement}
 use Rattle.reading.proofs.solving.add_places.Tie as tie

@@ -3,10 +3,10 @@ use Prim.Native.Nat.{_+_, _*_}
 use mathlib.Core.Path.{ap}
 use native.Mathlib.Nat.{mul-le-mul}
 use native.Mathlib.Omega.{arith}
 use Rattle.sizes.proofs.SizeLaws.{ranged}
-use Rattle.archive.proofs.SizeLaws.{count-low}
-use Rattle.archive.proofs.layout.archive_length.Statement.{statement}
-use Rattle.archive.proofs.layout.archive_length.Tie as tie
+use Rattle.sizes.proofs.PlaceLaws.{count-low}
+use Rattle.sizes.proofs.archive_length.Statement.{statement}
+use Rattle.sizes.proofs.archive_length.Tie as tie
 
 mul-result : tie.Need-mul-result
 mul-result c = omega (arith, count-low _ (ranged _ (c .before .pre)))

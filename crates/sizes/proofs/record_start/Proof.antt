@@ -3,8 +3,8 @@ use Prim.Native.Nat.{_+_, _*_}
 use mathlib.Core.Path.{ap}
 use native.Mathlib.Nat.{mul-le-mul}
 use native.Mathlib.Omega.{arith}
-use Rattle.archive.proofs.layout.record_start.Statement.{statement}
-use Rattle.archive.proofs.layout.record_start.Tie as tie
+use Rattle.sizes.proofs.record_start.Statement.{statement}
+use Rattle.sizes.proofs.record_start.Tie as tie
 
 mul-result : tie.Need-mul-result
 mul-result c = omega (arith, mul-le-mul {n₁ = c .before .args .k} {n₂ = 48} {m₂ = 1041} (omega arith) (c .record-length .ensures .1))

@@ -1,8 +1,8 @@
 use native.Mathlib.Omega.{arith}
 use mathlib.Core.Path.{refl}
 use Rattle.sizes.proofs.SizeLaws.{ranged}
-use Rattle.archive.proofs.layout.record_length.Statement.{statement}
-use Rattle.archive.proofs.layout.record_length.Tie as tie
+use Rattle.sizes.proofs.record_length.Statement.{statement}
+use Rattle.sizes.proofs.record_length.Tie as tie
 
 add-result : tie.Need-add-result
 add-result c = let r = ranged _ (c .before .pre) in omega (arith, r .n-high, r .m-high)

@@ -1,0 +1,63 @@
+-- The operation Repair, on an archive that is not bad: `filled` tells which places are.
+use Prim.Native.Nat.{ℕ, _+_, _*_, _/_, _%_}
+use mathlib.Core.Bool.{Bool, true, not}
+use mathlib.Core.List.{List, [], _∷_}
+use lib.ListN.{length}
+use lib.Dec.{leb}
+use Rattle.lists.specs.Lists.{at, flat, anyOf, anyBelow}
+use Rattle.answer.specs.declared.Outcome.{Outcome}
+use Rattle.answer.specs.declared.Outcome.the-variants.{Done}
+use Rattle.answer.specs.declared.Refusal.the-variants.{Size, Length, NoSuchPlace, PlaceEmpty, PlaceFilled}
+use Rattle.answer.specs.Refusals.{refuse, differs, outside}
+use Rattle.field.specs.Field.{sum, times}
+use Rattle.sizes.specs.declared.Sizes.{Sizes}
+use Rattle.sizes.specs.Lengths.{recordLength, placeNumber}
+use Rattle.vector.specs.Vectors.{mixed}
+use Rattle.archive.specs.Layout.{byteIn, stored}
+
+-- "1, P or Q; 2, a length; 4, target or a helper; 6, any place of the target filled; 5, any place of a helper empty"; scratch is the length of
+-- that buffer
+abbrev pub repairFor : (z : Sizes) (filled : ℕ → ℕ → Bool) (target : ℕ) (helpers : List ℕ) (q : ℕ) (gammas thetas : List ℕ) (scratch : ℕ) → Outcome
+repairFor z filled target helpers q gammas thetas scratch =
+    let P : ℕ = length helpers in
+    refuse (anyOf (outside 1 5 P ∷ outside 1 8 q ∷ [])) Size
+    (refuse
+    (anyOf
+    (differs (length gammas) (P * q * z .places)
+    ∷ differs (length thetas) (P * q * z .places)
+    ∷ differs scratch (P * q * recordLength z)
+    ∷ [])) Length
+    (refuse (anyOf (leb (z .nodes) target ∷ anyBelow P (λ i. leb (z .nodes) (at helpers i)) ∷ [])) NoSuchPlace
+    (refuse (anyBelow (z .places) (λ k. filled target k)) PlaceFilled
+    (refuse (anyBelow P (λ i. anyBelow (z .places) (λ l. not (filled (at helpers i) l)))) PlaceEmpty
+    Done))))
+
+-- "gamma(i,j,l) stands at (iQ+j)M+l, theta(i,j,k) at (iQ+j)M+k"
+abbrev pub coefficient : Sizes → ℕ → List ℕ → ℕ → ℕ → ℕ → ℕ
+coefficient z q cs i j l = at cs ((i * q + j) * z .places + l)
+
+-- the sum over helpers i and repair blocks j of theta(i,j,k) times the sum over places l of gamma(i,j,l) times what x gives for the
+-- helper's place l
+abbrev pub repairSum : Sizes → List ℕ → ℕ → List ℕ → List ℕ → ℕ → (ℕ → ℕ → ℕ) → ℕ
+repairSum z helpers q gammas thetas k x =
+    sum (length helpers) (λ i. sum q (λ j.
+    times (coefficient z q thetas i j k) (sum (z .places) (λ l. times (coefficient z q gammas i j l) (x (at helpers i) l)))))
+
+-- "Repair block (i,j) is helper i's records, block and tag, combined by gamma(i,j,l)": its byte e
+unfoldable pub repairByte : Sizes → List ℕ → List ℕ → ℕ → List ℕ → ℕ → ℕ → ℕ → ℕ
+repairByte z s helpers q gammas i j e =
+    mixed (z .places) (coefficient z q gammas i j) (λ l. byteIn z s (placeNumber z (at helpers i) l)) e
+
+-- "target record k is all repair blocks, with tags, combined by theta(i,j,k)": its byte e
+unfoldable pub targetByte : Sizes → List ℕ → List ℕ → ℕ → List ℕ → List ℕ → ℕ → ℕ → ℕ
+targetByte z s helpers q gammas thetas k e =
+    sum (length helpers) (λ i. sum q (λ j. times (coefficient z q thetas i j k) (repairByte z s helpers q gammas i j e)))
+
+-- every place of the target is marked, and its record is made of the repair blocks
+abbrev pub repaired : (z : Sizes) (archive : List ℕ) (target : ℕ) (helpers : List ℕ) (q : ℕ) (gammas thetas : List ℕ) → List ℕ
+repaired z archive target helpers q gammas thetas =
+    stored z true (placeNumber z target 0) (z .places) (targetByte z archive helpers q gammas thetas) archive
+
+-- the scratch buffer "afterwards holds the repair blocks with tags, helper by helper": "repair block (i,j) at (iQ+j)(n+m+1)"
+unfoldable pub scratchMade : Sizes → List ℕ → List ℕ → ℕ → List ℕ → List ℕ
+scratchMade z s helpers q gammas = flat (length helpers * q) (recordLength z) (λ t. repairByte z s helpers q gammas (t / q) (t % q))

@@ -1,0 +1,91 @@
+-- Every length and offset, once. Lengths count bytes; n, m, places and nodes are those of `Sizes`.
+use Prim.Native.Nat.{ℕ, _+_, _-_, _*_}
+use Rattle.sizes.specs.declared.Sizes.{Sizes}
+
+-- ---- keys, nonces, identifiers, seeds; a keystream block
+
+abbrev pub keyLength : ℕ
+keyLength = 32
+
+abbrev pub nonceLength : ℕ
+nonceLength = 12
+
+abbrev pub streamBlockLength : ℕ
+streamBlockLength = 64
+
+abbrev pub idLength : ℕ
+idLength = 8
+
+abbrev pub seedLength : ℕ
+seedLength = 11
+
+-- ---- the header of an archive: packed sizes, the id, fill marks
+
+abbrev pub idStart : ℕ
+idStart = 4
+
+abbrev pub marksStart : ℕ
+marksStart = 12
+
+abbrev pub marksLength : ℕ
+marksLength = 6
+
+abbrev pub headerLength : ℕ
+headerLength = 18
+
+-- the marks as bits: the first of them, and how many there are
+abbrev pub firstMark : ℕ
+firstMark = 96
+
+abbrev pub markCount : ℕ
+markCount = 48
+
+-- ---- places and records
+
+abbrev pub placeCount : (z : Sizes) → ℕ
+placeCount z = z .nodes * z .places
+
+-- a block is n data elements and a row of m; a record is a block and its tag
+abbrev pub blockLength : (z : Sizes) → ℕ
+blockLength z = z .n + z .m
+
+abbrev pub recordLength : (z : Sizes) → ℕ
+recordLength z = blockLength z + 1
+
+abbrev pub archiveLength : (z : Sizes) → ℕ
+archiveLength z = headerLength + placeCount z * recordLength z
+
+-- the number of a node's place: records stand in the order of the marks
+abbrev pub placeNumber : (z : Sizes) (node place : ℕ) → ℕ
+placeNumber z node place = node * z .places + place
+
+abbrev pub recordStart : (z : Sizes) (k : ℕ) → ℕ
+recordStart z k = headerLength + k * recordLength z
+
+-- ---- a month's file, its padding, the auxiliary elements
+
+abbrev pub fileLength : (z : Sizes) → ℕ
+fileLength z = z .m * (z .n - 2)
+
+abbrev pub paddingLength : (z : Sizes) → ℕ
+paddingLength z = 2 * z .m
+
+abbrev pub auxiliaryLength : (n : ℕ) → ℕ
+auxiliaryLength n = n - 1
+
+-- ---- a response: head, n - 2 masked bytes, seed, mask sum, two elements in clear, tag
+
+abbrev pub responseLength : (n : ℕ) → ℕ
+responseLength n = n + 14
+
+abbrev pub seedStart : (n : ℕ) → ℕ
+seedStart n = n - 1
+
+abbrev pub sumAt : (n : ℕ) → ℕ
+sumAt n = n + 10
+
+abbrev pub clearStart : (n : ℕ) → ℕ
+clearStart n = n + 11
+
+abbrev pub tagAt : (n : ℕ) → ℕ
+tagAt n = n + 13
