@@ -15,7 +15,7 @@ countedValue (Count k) old = k
 countedValue (Refused r) old = old
 
 -- the number and the value of an answer that is allowed
-pub record Told (Allowed : Counted → Type 0) (number old value : ℕ) : Type 0 where
+pub record CountedAnswer (Allowed : Counted → Type 0) (number old value : ℕ) : Type 0 where
   pub answer : Counted
   pub allowed : Allowed answer
   pub its-number : number ≡ countedNumber answer

@@ -13,7 +13,7 @@ use Rattle.sizes.proofs.SizeLaws.{Ranged}
 use Rattle.sizes.specs.Lengths.{archiveLength}
 use Rattle.archive.specs.Layout.{sizesOf, idOf, filledIn, badArchive}
 use Rattle.archive.specs.Calls.{Call, answerFor, archiveAnswer, effectFor, archiveAfter}
-use Rattle.archive.proofs.GoodLaws.{good-sizes, good-length}
+use Rattle.archive.proofs.GoodArchiveLaws.{good-sizes, good-length}
 
 -- the sizes as they were read
 module _ (s : List ℕ) {z : Sizes} (read : z ≡ sizesOf s) (good : badArchive s ≡ false) where

@@ -13,7 +13,7 @@ use Rattle.archive.specs.Layout.{sizesOf, markAt, badArchive}
 use Rattle.lists.specs.Lists.{howMany}
 use Rattle.archive.specs.Read.{ReadAllows}
 use Rattle.archive.specs.Inventory.{InventoryAllows}
-use Rattle.archive.proofs.GoodLaws.{good-sizes}
+use Rattle.archive.proofs.GoodArchiveLaws.{good-sizes}
 use Rattle.sizes.proofs.PlaceLaws.{count-low}
 use Rattle.lists.proofs.CountLaws.{howMany-most}
 

@@ -1,6 +1,6 @@
 pub mod LayoutLaws
-pub mod GoodLaws
-pub mod BadLaws
+pub mod GoodArchiveLaws
+pub mod BadArchiveLaws
 pub mod MarkLaws
 pub mod OpenLaws
 pub mod StoreLaws

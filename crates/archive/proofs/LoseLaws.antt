@@ -22,7 +22,7 @@ use Rattle.sizes.specs.Lengths.{placeCount, recordLength, recordStart}
 use Rattle.archive.specs.Layout.{sizesOf, idOf, markAt, badArchive, withMarks, stored}
 use Rattle.archive.specs.Calls.{lose, answerFor, archiveAnswer, effectFor, archiveAfter}
 use Rattle.sizes.proofs.PlaceLaws.{count-low}
-use Rattle.archive.proofs.GoodLaws.{good-sizes, good-length}
+use Rattle.archive.proofs.GoodArchiveLaws.{good-sizes, good-length}
 
 -- ---- the answer, refusal by refusal
 

@@ -18,7 +18,7 @@ use Rattle.message.proofs.ResponseLaws.{response-same}
 use Rattle.message.specs.Challenge.{challengeOf, malformedChallenge, notThere}
 use Rattle.archive.specs.Layout.{sizesOf, idOf, badArchive}
 use Rattle.archive.specs.Prove.{proveFor, proveAnswer, responseFor, namedByte, provedFor, proveOut}
-use Rattle.archive.proofs.GoodLaws.{good-sizes, good-id}
+use Rattle.archive.proofs.GoodArchiveLaws.{good-sizes, good-id}
 
 module _ (s maskKey elements seed message out : List ℕ) where
   -- the test of lengths, over the sizes that were read

@@ -18,7 +18,7 @@ use Rattle.archive.specs.Layout.{sizesOf, markAt, byteIn, withMarks, sto
 use Rattle.archive.specs.Repair.{repairByte, targetByte}
 use Rattle.archive.specs.Calls.{answerFor, archiveAnswer, effectFor, archiveAfter}
 use Rattle.archive.specs.Repaired.{RepairedRows}
-use Rattle.archive.proofs.GoodLaws.{good-length}
+use Rattle.archive.proofs.GoodArchiveLaws.{good-length}
 
 pub length-marks : (mark : ℕ → Bool) (s : List ℕ) → length (withMarks mark s) ≡ length s
 unfolding withMarks

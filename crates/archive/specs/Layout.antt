@@ -6,7 +6,7 @@ use lib.ListN.{length, take, drop}
 use lib.Dec.{leb}
 use Rattle.lists.specs.Lists.{pick, at, flat, put, grid, over, anyOf, anyBelow}
 use Rattle.answer.specs.Refusals.{differs}
-use Rattle.bits.specs.Fields.{Field, _wide_, pack, packed, bitAt, fieldAt}
+use Rattle.bits.specs.Fields.{BitField, _wide_, pack, packed, bitAt, fieldAt}
 use Rattle.sizes.specs.declared.Sizes.{Sizes}
 use Rattle.sizes.specs.Sizes.{sizesOutside}
 use Rattle.sizes.specs.Lengths.{placeCount, recordLength, archiveLength, placeNumber, recordStart}
@@ -14,7 +14,7 @@ use Rattle.sizes.specs.Lengths.{placeCount, recordLength, archiveLength, placeN
 -- ---- writing
 
 -- "layout, 4 bits, value 1; n, 11; m, 5; M, 4; N, 3; five zero bits"
-abbrev pub sizeFields : Sizes → List Field
+abbrev pub sizeFields : Sizes → List BitField
 sizeFields z = (4 wide 1) ∷ (11 wide z .n) ∷ (5 wide z .m) ∷ (4 wide z .places) ∷ (3 wide z .nodes) ∷ (5 wide 0) ∷ []
 
 -- a whole archive: those 32 bits, "id, 64; fill marks, 48", then the records; rec k p is byte p of record k

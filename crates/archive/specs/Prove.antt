@@ -20,31 +20,31 @@ use Rattle.archive.specs.Layout.{sizesOf, idOf, filledIn, byteIn, badArc
 
 -- the refusals once the header and the challenge are read
 unfoldable pub proveFor : Sizes → (ℕ → ℕ → Bool) → List ℕ → List ℕ → List ℕ → Challenge → List ℕ → Outcome
-proveFor z filled maskKey elements seed c out =
-    refuse (anyOf (differs (length maskKey) 32 ∷ differs (length elements) (z .n - 1) ∷ differs (length seed) 11 ∷ differs (length out) (responseLength (z .n)) ∷ [])) Length
+proveFor z filled maskKey auxiliary seed c out =
+    refuse (anyOf (differs (length maskKey) 32 ∷ differs (length auxiliary) (z .n - 1) ∷ differs (length seed) 11 ∷ differs (length out) (responseLength (z .n)) ∷ [])) Length
     (refuse (notThere z c) NoSuchPlace
     (refuse (anyBelow (length (c .places)) (λ j. not (filled (c .node) (at (c .places) j)))) PlaceEmpty
     Done))
 
 unfoldable pub proveAnswer : List ℕ → List ℕ → List ℕ → List ℕ → List ℕ → List ℕ → Outcome
-proveAnswer s maskKey elements seed message out =
+proveAnswer s maskKey auxiliary seed message out =
     refuse (badArchive s) BadArchive
     (refuse (malformedChallenge message) Malformed
-    (proveFor (sizesOf s) (filledIn (sizesOf s) s) maskKey elements seed (challengeOf message) out))
+    (proveFor (sizesOf s) (filledIn (sizesOf s) s) maskKey auxiliary seed (challengeOf message) out))
 
 -- the response for a combined block and its tag
 unfoldable pub responseFor : ℕ → List ℕ → List ℕ → List ℕ → List ℕ → ℕ → (ℕ → ℕ) → ℕ → List ℕ
-responseFor n id maskKey elements seed node block tag =
-    responseBytes n node block tag (mask n (maskCoefficient maskKey seed) (maskRow maskKey id)) seed (maskSum n (maskCoefficient maskKey seed) elements)
+responseFor n id maskKey auxiliary seed node block tag =
+    responseBytes n node block tag (mask n (maskCoefficient maskKey seed) (maskRow maskKey id)) seed (maskSum n (maskCoefficient maskKey seed) auxiliary)
 
 -- byte e of the named places' records, combined by the challenge
 unfoldable pub namedByte : Sizes → List ℕ → Challenge → ℕ → ℕ
 namedByte z s c e = mixed (length (c .places)) (at (c .coefficients)) (λ j. byteIn z s (placeNumber z (c .node) (at (c .places) j))) e
 
 unfoldable pub provedFor : Sizes → List ℕ → List ℕ → List ℕ → List ℕ → List ℕ → Challenge → List ℕ
-provedFor z id s maskKey elements seed c =
-    responseFor (z .n) id maskKey elements seed (c .node) (namedByte z s c) (namedByte z s c (blockLength z))
+provedFor z id s maskKey auxiliary seed c =
+    responseFor (z .n) id maskKey auxiliary seed (c .node) (namedByte z s c) (namedByte z s c (blockLength z))
 
 unfoldable pub proveOut : List ℕ → List ℕ → List ℕ → List ℕ → List ℕ → List ℕ → List ℕ
-proveOut s maskKey elements seed message out =
-    afterwards (proveAnswer s maskKey elements seed message out) out (provedFor (sizesOf s) (idOf s) s maskKey elements seed (challengeOf message))
+proveOut s maskKey auxiliary seed message out =
+    afterwards (proveAnswer s maskKey auxiliary seed message out) out (provedFor (sizesOf s) (idOf s) s maskKey auxiliary seed (challengeOf message))

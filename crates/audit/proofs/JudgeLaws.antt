@@ -26,11 +26,11 @@ use Rattle.sizes.proofs.SizeLaws.{ranged}
 use Rattle.vector.proofs.VectorLaws.{mixed-vectors, product-same, product-keys, product-split}
 use Rattle.vector.proofs.AddedLaws.{added-zeros}
 use Rattle.linear.specs.declared.rows.Row.{Row}
-use Rattle.linear.specs.Rows.{kept}
+use Rattle.linear.specs.PrivateRows.{kept}
 use Rattle.linear.proofs.KeptLaws.{row-stored, kept-same, kept-at}
 use Rattle.sizes.specs.Lengths.{responseLength}
 use Rattle.message.specs.Response.{dataIn, sumIn, tagIn}
-use Rattle.mask.proofs.RowLaws.{vector-filled}
+use Rattle.mask.proofs.MaskRowLaws.{vector-filled}
 use Rattle.message.specs.Challenge.{Challenge, challengeOf, malformedChallenge, notThere}
 use Rattle.audit.specs.Verdict.{verdictFor, namedRow, appended, accepts, judgement, verdictOf}
 use Rattle.audit.specs.declared.Judgement.the-variants.{Accepted, Rejected, Refused}

@@ -5,9 +5,9 @@ ghost use Prim.Native.Nat.{_*_};
 ghost use lib.ListN.{length};
 ghost use Rattle.lists.specs.Lists.{at};
 ghost use Rattle.answer.specs.Refusals.{Passed};
-ghost use Rattle.field.specs.Tables.{PowerTable, LogTable};
+ghost use Rattle.field.specs.PrivateTables.{PowerTable, LogTable};
 ghost use Rattle.sizes.specs.Sizes.{sizesOutside};
-ghost use Rattle.linear.specs.Rows.{kept};
+ghost use Rattle.linear.specs.PrivateRows.{kept};
 ghost use Rattle.sizes.specs.Lengths.{responseLength};
 ghost use Rattle.message.specs.Challenge.{challengeOf, malformedChallenge, notThere};
 ghost use Rattle.audit.specs.Verdict.{judgementNumber, verdictFor, namedRow, accepts, verdictOf};
@@ -34,14 +34,14 @@ pub fn number(j: Judgement) -> u8
 
 // The first refusal of Verdict.
 fn verdict_check(
-    key: &[u8],
+    tag_key: &[u8],
     id: &[u8],
     z: Sizes,
     rows: &[u8],
     message: &[u8],
     response: &[u8],
 ) -> Outcome
-    ensures { λ r. ⌜ r ≡ verdictFor z (now (key .entry)) (now (id .entry)) (now (rows .entry)) (challengeOf (now (message .entry))) (malformedChallenge (now (message .entry))) (now (response .entry)) ⌝ }
+    ensures { λ r. ⌜ r ≡ verdictFor z (now («tag_key» .entry)) (now (id .entry)) (now (rows .entry)) (challengeOf (now (message .entry))) (malformedChallenge (now (message .entry))) (now (response .entry)) ⌝ }
 {
     if sizes::sizes_outside(z) {
         return Outcome::Refused(Refusal::Size);
@@ -49,7 +49,7 @@ fn verdict_check(
     if malformed(message) {
         return Outcome::Refused(Refusal::Malformed);
     }
-    if (key.len() != 32)
+    if (tag_key.len() != 32)
         | (id.len() != 8)
         | (rows.len() != z.places * z.m)
         | (response.len() != z.n + 14)
@@ -102,15 +102,15 @@ fn agrees(
 
 // The judgement where nothing is refused.
 fn judged(
-    key: &[u8],
+    tag_key: &[u8],
     id: &[u8],
     z: Sizes,
     rows: &[u8],
     message: &[u8],
     response: &[u8],
 ) -> Judgement
-    requires { ⌜ Passed (verdictFor z (now key) (now id) (now rows) (challengeOf (now message)) (malformedChallenge (now message)) (now response)) ⌝ }
-    ensures { λ r. ⌜ r ≡ verdictOf (now (key .entry)) (now (id .entry)) z (now (rows .entry)) (now (message .entry)) (now (response .entry)) ⌝ }
+    requires { ⌜ Passed (verdictFor z (now «tag_key») (now id) (now rows) (challengeOf (now message)) (malformedChallenge (now message)) (now response)) ⌝ }
+    ensures { λ r. ⌜ r ≡ verdictOf (now («tag_key» .entry)) (now (id .entry)) z (now (rows .entry)) (now (message .entry)) (now (response .entry)) ⌝ }
 {
     let pair = field::tables();
     let powers = pair.powers;
@@ -118,7 +118,7 @@ fn judged(
     let row = named_row(&powers, &logs, z, rows, message);
     let mut vector = [0u8; 1088];
     keystream::fill(
-        tag::key_array(key),
+        tag::key_array(tag_key),
         tag::id_nonce(1, 0, 0, 0, id),
         &mut vector,
         (z.n + z.m) / 64 + 1,
@@ -132,7 +132,7 @@ fn judged(
 
 // Accepts or rejects a response, by the tag key, the archive's id and sizes, and the rows of the challenged node.
 pub fn verdict(
-    key: &[u8],
+    tag_key: &[u8],
     id: &[u8],
     n: usize,
     m: usize,
@@ -142,7 +142,7 @@ pub fn verdict(
     message: &[u8],
     response: &[u8],
 ) -> Judgement
-    ensures { λ r. ⌜ r ≡ verdictOf (now (key .entry)) (now (id .entry)) (record { n = n; m = m; places = places; nodes = nodes }) (now (rows .entry)) (now (message .entry)) (now (response .entry)) ⌝ }
+    ensures { λ r. ⌜ r ≡ verdictOf (now («tag_key» .entry)) (now (id .entry)) (record { n = n; m = m; places = places; nodes = nodes }) (now (rows .entry)) (now (message .entry)) (now (response .entry)) ⌝ }
 {
     let z = Sizes {
         n,
@@ -150,8 +150,8 @@ pub fn verdict(
         places,
         nodes,
     };
-    match verdict_check(key, id, z, rows, message, response) {
-        Outcome::Done => judged(key, id, z, rows, message, response),
+    match verdict_check(tag_key, id, z, rows, message, response) {
+        Outcome::Done => judged(tag_key, id, z, rows, message, response),
         Outcome::Refused(r) => Judgement::Refused(r),
     }
 }

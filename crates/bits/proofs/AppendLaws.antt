@@ -9,7 +9,7 @@ use lib.Seq.{getD-append-add}
 use Rattle.lists.specs.Lists.{tab, over}
 use Rattle.lists.proofs.TabLaws.{order}
 use Rattle.lists.proofs.OverLaws.{over-within, over-below, over-above, over-same}
-use Rattle.bits.specs.Fields.{Field, bitOf, bitsOf, widths, number, packed, bytesFor, pack, bitAt, fieldAt, withField}
+use Rattle.bits.specs.Fields.{BitField, bitOf, bitsOf, widths, number, packed, bytesFor, pack, bitAt, fieldAt, withField}
 use Rattle.bits.proofs.NumberLaws.{number-same}
 use Rattle.bits.proofs.PackLaws.{packed-length, packed-bit, packed-same, bits-here, bits-front, bits-rest, bits-past}
 
@@ -31,7 +31,7 @@ bit-behind a b n k e =
     rw (q, r, getD-append-add a b (k / 8) 0)
 
 -- the bits of one field more, and those that it takes
-bits-append : (fs : List Field) (f : Field) (k : ℕ) → over (widths fs) (f .width) (bitOf (f .width) (f .value)) (bitsOf fs) k ≡ bitsOf (fs ++ (f ∷ [])) k
+bits-append : (fs : List BitField) (f : BitField) (k : ℕ) → over (widths fs) (f .width) (bitOf (f .width) (f .value)) (bitsOf fs) k ≡ bitsOf (fs ++ (f ∷ [])) k
 unfolding widths
 bits-append fs f k =
     ⊎-elim
@@ -49,13 +49,13 @@ bits-append fs f k =
         let q : k ≡ widths fs + (k - widths fs) = omega arith in
         ap (bitsOf (fs ++ (f ∷ []))) q ∙ bits-rest fs (f ∷ []) (k - widths fs)
 
-pub widths-more : (fs : List Field) (f : Field) → widths (fs ++ (f ∷ [])) ≡ widths fs + f .width
+pub widths-more : (fs : List BitField) (f : BitField) → widths (fs ++ (f ∷ [])) ≡ widths fs + f .width
 unfolding widths
 widths-more [] f = omega arith
 widths-more (g ∷ fs) f = rw (widths-more fs f) (omega arith)
 
 -- a field written behind the others
-pub append-field : (len : ℕ) (fs : List Field) (f : Field)
+pub append-field : (len : ℕ) (fs : List BitField) (f : BitField)
     → withField (packed len (bitsOf fs)) (widths fs) (f .width) (f .value) ≡ packed len (bitsOf (fs ++ (f ∷ [])))
 unfolding withField
 append-field len fs f =
@@ -64,12 +64,12 @@ append-field len fs f =
     over-same (widths fs) (f .width) _ _ _ (bitsOf fs) k (λ j l. refl) (packed-bit len (bitsOf fs) k h) ∙ bits-append fs f k))
 
 -- `len` bytes hold fields, n bits together, and zero bits behind them
-pub record Holds (len : ℕ) (fs : List Field) (n : ℕ) (s : List ℕ) : Type 0 where
+pub record Holds (len : ℕ) (fs : List BitField) (n : ℕ) (s : List ℕ) : Type 0 where
   pub sized : length s ≡ len
   pub bytes : s ≡ packed len (bitsOf fs)
   pub bits : widths fs ≡ n
 
-holds : {len n : ℕ} {fs : List Field} {s : List ℕ} → s ≡ packed len (bitsOf fs) → widths fs ≡ n → Holds len fs n s
+holds : {len n : ℕ} {fs : List BitField} {s : List ℕ} → s ≡ packed len (bitsOf fs) → widths fs ≡ n → Holds len fs n s
 holds {len} {fs = fs} b w = record { sized = rw b (packed-length len (bitsOf fs)); bytes = b; bits = w }
 
 -- no field, one more, all that are packed
@@ -77,10 +77,10 @@ pub holds-none : {len : ℕ} {s : List ℕ} → s ≡ tab len (λ i. 0) → Hold
 unfolding packed bitsOf number widths
 holds-none clear = holds clear refl
 
-pub holds-more : {len n : ℕ} {fs : List Field} {s r : List ℕ} (f : Field) → Holds len fs n s → r ≡ withField s n (f .width) (f .value)
+pub holds-more : {len n : ℕ} {fs : List BitField} {s r : List ℕ} (f : BitField) → Holds len fs n s → r ≡ withField s n (f .width) (f .value)
     → Holds len (fs ++ (f ∷ [])) (n + f .width) r
 holds-more {len} {fs = fs} f h wrote = holds (wrote ∙ rw (h .bytes, ← h .bits) (append-field len fs f)) (widths-more fs f ∙ rw (h .bits))
 
-pub holds-packed : {n : ℕ} {fs : List Field} {s : List ℕ} → Holds (bytesFor n) fs n s → s ≡ pack fs
+pub holds-packed : {n : ℕ} {fs : List BitField} {s : List ℕ} → Holds (bytesFor n) fs n s → s ≡ pack fs
 unfolding pack
 holds-packed h = rw (h .bits) (h .bytes)

@@ -11,7 +11,7 @@ use lib.ListN.{length, List·getD-eq-default}
 use borrow.Author.Tests.{lt-ltb, le-ltb}
 use Rattle.lists.specs.Lists.{pick, at, bit}
 use Rattle.lists.proofs.TabLaws.{order, length-tab, tab-at, is-tab, tab-same}
-use Rattle.bits.specs.Fields.{Field, _wide_, bitOf, bitsOf, widths, number, packed, bytesFor, pack, bitAt, fieldAt}
+use Rattle.bits.specs.Fields.{BitField, _wide_, bitOf, bitsOf, widths, number, packed, bytesFor, pack, bitAt, fieldAt}
 use Rattle.lists.proofs.CountLaws.{bit-low}
 use Rattle.bits.proofs.NumberLaws.{bit-odd, place-bit, number-same, number-low, number-none, number-more, number-small, number-back}
 
@@ -85,17 +85,17 @@ unfolding fieldAt
 field-small s from w x e h = number-small (λ i. bitAt s (from + i)) w e h
 
 -- fields in a row: the bits of the first, of the earlier ones, of the later ones, and past the last
-pub bits-here : (f : Field) (fs : List Field) (i : ℕ) → i < f .width → bitsOf (f ∷ fs) i ≡ bitOf (f .width) (f .value) i
+pub bits-here : (f : BitField) (fs : List BitField) (i : ℕ) → i < f .width → bitsOf (f ∷ fs) i ≡ bitOf (f .width) (f .value) i
 unfolding bitsOf
 bits-here f fs i h = rw (lt-ltb i (f .width) h)
 
-bits-skip : (f : Field) (fs : List Field) (k : ℕ) → bitsOf (f ∷ fs) (f .width + k) ≡ bitsOf fs k
+bits-skip : (f : BitField) (fs : List BitField) (k : ℕ) → bitsOf (f ∷ fs) (f .width + k) ≡ bitsOf fs k
 unfolding bitsOf
 bits-skip f fs k =
     let q : f .width + k - f .width ≡ k = omega arith in
     rw (le-ltb (f .width + k) (f .width) (omega arith), q)
 
-pub bits-front : (before rest : List Field) (k : ℕ) → k < widths before → bitsOf (before ++ rest) k ≡ bitsOf before k
+pub bits-front : (before rest : List BitField) (k : ℕ) → k < widths before → bitsOf (before ++ rest) k ≡ bitsOf before k
 unfolding widths bitsOf
 bits-front [] rest k h = absurd (omega arith)
 bits-front (f ∷ before) rest k h =
@@ -104,14 +104,14 @@ bits-front (f ∷ before) rest k h =
     (λ (l : f .width ≤ k). rw (le-ltb k (f .width) l) (bits-front before rest (k - f .width) (omega arith)))
     (order k (f .width))
 
-pub bits-rest : (before rest : List Field) (k : ℕ) → bitsOf (before ++ rest) (widths before + k) ≡ bitsOf rest k
+pub bits-rest : (before rest : List BitField) (k : ℕ) → bitsOf (before ++ rest) (widths before + k) ≡ bitsOf rest k
 unfolding widths
 bits-rest [] rest k = let q : 0 + k ≡ k = omega arith in rw q refl
 bits-rest (f ∷ before) rest k =
     let q : f .width + widths before + k ≡ f .width + (widths before + k) = omega arith in
     ap (bitsOf (f ∷ (before ++ rest))) q ∙ bits-skip f (before ++ rest) (widths before + k) ∙ bits-rest before rest k
 
-pub bits-past : (fs : List Field) (k : ℕ) → widths fs ≤ k → bitsOf fs k ≡ false
+pub bits-past : (fs : List BitField) (k : ℕ) → widths fs ≤ k → bitsOf fs k ≡ false
 unfolding widths bitsOf
 bits-past [] k h = refl
 bits-past (f ∷ fs) k h = rw (le-ltb k (f .width) (omega arith)) (bits-past fs (k - f .width) (omega arith))
@@ -125,7 +125,7 @@ zero-bits w k = rw zero-div (go (ltb k w))
     go true = refl
     go false = refl
 
-pub bits-zero : (fs : List Field) (w k : ℕ) → bitsOf fs k ≡ bitsOf (fs ++ ((w wide 0) ∷ [])) k
+pub bits-zero : (fs : List BitField) (w k : ℕ) → bitsOf fs k ≡ bitsOf (fs ++ ((w wide 0) ∷ [])) k
 bits-zero fs w k =
     ⊎-elim
     (λ (l : k < widths fs). sym (bits-front fs ((w wide 0) ∷ []) k l))
@@ -139,29 +139,29 @@ pub packed-zero : (len : ℕ) (bits : ℕ → Bool) (j : ℕ) → j < len → ((
 unfolding number
 packed-zero len bits j h none = packed-at len bits j h ∙ number-same (λ i. bits (8 * j + i)) (λ i. false) 8 none
 
-pub packed-past : (len : ℕ) (fs : List Field) (j : ℕ) → j < len → widths fs ≤ 8 * j → at (packed len (bitsOf fs)) j ≡ 0
+pub packed-past : (len : ℕ) (fs : List BitField) (j : ℕ) → j < len → widths fs ≤ 8 * j → at (packed len (bitsOf fs)) j ≡ 0
 packed-past len fs j h past = packed-zero len (bitsOf fs) j h (λ i l. bits-past fs (8 * j + i) (omega arith))
 
-widths-within : (before : List Field) (f : Field) (rest : List Field) → widths before + f .width ≤ widths (before ++ (f ∷ rest))
+widths-within : (before : List BitField) (f : BitField) (rest : List BitField) → widths before + f .width ≤ widths (before ++ (f ∷ rest))
 unfolding widths
 widths-within [] f rest = omega arith
 widths-within (g ∷ before) f rest = omega (arith, widths-within before f rest)
 
 -- what `RoundTrip` says
-pub pack-length : (fs : List Field) → length (pack fs) ≡ bytesFor (widths fs)
+pub pack-length : (fs : List BitField) → length (pack fs) ≡ bytesFor (widths fs)
 unfolding pack
 pack-length fs = packed-length (bytesFor (widths fs)) (bitsOf fs)
 
-pub pack-field : (before : List Field) (f : Field) (rest : List Field) → f .value < 2 ^ f .width
+pub pack-field : (before : List BitField) (f : BitField) (rest : List BitField) → f .value < 2 ^ f .width
     → fieldAt (pack (before ++ (f ∷ rest))) (widths before) (f .width) ≡ f .value
 unfolding pack
 pack-field before f rest l =
-    let fs : List Field = before ++ (f ∷ rest) in
+    let fs : List BitField = before ++ (f ∷ rest) in
     field-back (pack fs) (widths before) (f .width) (f .value) l (λ i h.
     packed-bit (bytesFor (widths fs)) (bitsOf fs) (widths before + i) (omega (arith, widths-within before f rest))
     ∙ bits-rest before (f ∷ rest) i ∙ bits-here f rest i h)
 
-pub pack-spare : (fs : List Field) (k : ℕ) → widths fs ≤ k → bitAt (pack fs) k ≡ false
+pub pack-spare : (fs : List BitField) (k : ℕ) → widths fs ≤ k → bitAt (pack fs) k ≡ false
 unfolding pack
 pack-spare fs k h =
     ⊎-elim

@@ -8,12 +8,12 @@ use lib.Dec.{eqb, ltb}
 use Rattle.lists.specs.Lists.{pick, at, tab, over, bit}
 
 -- a field: its width in bits, and its value
-pub record Field : Type 0 where
+pub record BitField : Type 0 where
   pub width : ℕ
   pub value : ℕ
 
 infix 90 _wide_
-abbrev pub _wide_ : ℕ → ℕ → Field
+abbrev pub _wide_ : ℕ → ℕ → BitField
 _wide_ w v = record { width = w; value = v }
 
 -- ---- packing
@@ -23,12 +23,12 @@ unfoldable pub bitOf : ℕ → ℕ → ℕ → Bool
 bitOf w v i = eqb (v / 2 ^ (w - (i + 1)) % 2) 1
 
 -- bit k of fields in a row; zero past the last
-unfoldable pub bitsOf : List Field → ℕ → Bool
+unfoldable pub bitsOf : List BitField → ℕ → Bool
 bitsOf [] k = false
 bitsOf (f ∷ fs) k = pick (ltb k (f .width)) (bitOf (f .width) (f .value) k) (bitsOf fs (k - f .width))
 
 -- the bits that fields take together
-unfoldable pub widths : List Field → ℕ
+unfoldable pub widths : List BitField → ℕ
 widths [] = 0
 widths (f ∷ fs) = f .width + widths fs
 
@@ -46,7 +46,7 @@ abbrev pub bytesFor : ℕ → ℕ
 bytesFor bits = (bits + 7) / 8
 
 -- fields in a row, with zero bits to a whole byte
-unfoldable pub pack : List Field → List ℕ
+unfoldable pub pack : List BitField → List ℕ
 pack fs = packed (bytesFor (widths fs)) (bitsOf fs)
 
 -- ---- reading and writing a field at a bit offset
@@ -67,10 +67,10 @@ withField s from w v = packed (length s) (over from w (bitOf w v) (bitAt s))
 
 -- what was packed is read back, field by field; nothing but zero bits follows the last
 pub record RoundTrip : Type 0 where
-  pub size : (fs : List Field) → length (pack fs) ≡ bytesFor (widths fs)
-  pub field : (before : List Field) (f : Field) (rest : List Field) → f .value < 2 ^ f .width
+  pub size : (fs : List BitField) → length (pack fs) ≡ bytesFor (widths fs)
+  pub field : (before : List BitField) (f : BitField) (rest : List BitField) → f .value < 2 ^ f .width
       → fieldAt (pack (before ++ (f ∷ rest))) (widths before) (f .width) ≡ f .value
-  pub spare : (fs : List Field) (k : ℕ) → widths fs ≤ k → bitAt (pack fs) k ≡ false
+  pub spare : (fs : List BitField) (k : ℕ) → widths fs ≤ k → bitAt (pack fs) k ≡ false
 
 -- a field that was written is read back, and every other bit is as it was
 pub record Written : Type 0 where

@@ -18,7 +18,7 @@ use Rattle.answer.proofs.RefusalLaws.{accepted, same}
 use Rattle.field.specs.Field.{plus}
 use Rattle.field.proofs.SumLaws.{sum-same}
 use Rattle.keystream.specs.declared.stream.Stream.{Stream}
-use Rattle.keystream.specs.Draws.{fresh, drawn, after}
+use Rattle.keystream.specs.PrivateStream.{fresh, drawn, after}
 use Rattle.sizes.specs.declared.Sizes.{Sizes}
 use Rattle.vector.specs.Vectors.{product, mixed, added}
 use Rattle.tag.specs.KeyVector.{keyVector, withTag}
@@ -27,14 +27,14 @@ use Rattle.tag.proofs.StreamLaws.{key-drawn}
 use Rattle.vector.proofs.VectorLaws.{mixed-same, product-same, product-keys}
 use Rattle.vector.proofs.AddedLaws.{length-added, added-at, added-below, added-above}
 use Rattle.linear.specs.declared.rows.Row.{Row}
-use Rattle.linear.specs.Rows.{kept}
+use Rattle.linear.specs.PrivateRows.{kept}
 use Rattle.linear.proofs.KeptLaws.{kept-at}
 use Rattle.sizes.specs.Lengths.{blockLength, recordLength, recordStart, placeCount, placeNumber, fileLength, paddingLength}
 use Rattle.archive.specs.Layout.{sizesOf, idOf, markAt, withMarks, stored}
 use Rattle.archive.specs.Blocks.{source, coded, codedRecord}
 use Rattle.archive.specs.Calls.{encode, answerFor, archiveAnswer, effectFor}
 use Rattle.sizes.proofs.PlaceLaws.{number-low, count-low, record-fits}
-use Rattle.archive.proofs.GoodLaws.{good-sizes, good-length}
+use Rattle.archive.proofs.GoodArchiveLaws.{good-sizes, good-length}
 use Rattle.archive.proofs.RepairedLaws.{length-marks}
 use Rattle.archive.proofs.BlockLaws.{source-file, coded-row}
 

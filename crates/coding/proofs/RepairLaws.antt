@@ -27,7 +27,7 @@ use Rattle.archive.specs.Layout.{sizesOf, idOf, markAt, byteIn, badArchive, wit
 use Rattle.archive.specs.Calls.{repair, answerFor, archiveAnswer, effectFor, scratchAfter}
 use Rattle.archive.specs.Repair.{coefficient, repairByte, targetByte, scratchMade}
 use Rattle.sizes.proofs.PlaceLaws.{number-low, count-low, record-fits}
-use Rattle.archive.proofs.GoodLaws.{good-sizes, good-length}
+use Rattle.archive.proofs.GoodArchiveLaws.{good-sizes, good-length}
 
 -- ---- sizes
 

@@ -5,7 +5,7 @@ ghost use Prim.Native.Nat.{_+_, _≤_};
 ghost use lib.ListN.{length};
 ghost use Rattle.lists.specs.Lists.{at, put};
 ghost use Rattle.answer.specs.Refusals.{Passed};
-ghost use Rattle.field.specs.Tables.{PowerTable, LogTable};
+ghost use Rattle.field.specs.PrivateTables.{PowerTable, LogTable};
 ghost use Rattle.sizes.specs.Sizes.{sizesOutside};
 ghost use Rattle.sizes.specs.Lengths.{blockLength, fileLength, paddingLength};
 ghost use Rattle.archive.specs.Layout.{sizesOf, idOf};
@@ -30,10 +30,10 @@ fn encode_check(
     place: usize,
     file: &[u8],
     padding: &[u8],
-    key: &[u8],
+    tag_key: &[u8],
     row: &[u8],
 ) -> Outcome
-    ensures { λ r. ⌜ r ≡ archiveAnswer (now (archive .entry)) (Calls.encode node place (now (file .entry)) (now (padding .entry)) (now (key .entry)) (now (row .entry))) ⌝ }
+    ensures { λ r. ⌜ r ≡ archiveAnswer (now (archive .entry)) (Calls.encode node place (now (file .entry)) (now (padding .entry)) (now («tag_key» .entry)) (now (row .entry))) ⌝ }
 {
     if bad_archive(archive) {
         return Outcome::Refused(Refusal::BadArchive);
@@ -41,7 +41,7 @@ fn encode_check(
     let z = sizes_in(archive);
     if (file.len() != z.m * (z.n - 2))
         | (padding.len() != 2 * z.m)
-        | (key.len() != 32)
+        | (tag_key.len() != 32)
         | (row.len() != z.m)
     {
         return Outcome::Refused(Refusal::Length);
@@ -109,11 +109,11 @@ fn fill_place(
     place: usize,
     file: &[u8],
     padding: &[u8],
-    key: &[u8],
+    tag_key: &[u8],
     row: &[u8],
 )
-    requires { ⌜ Passed (archiveAnswer (now archive) (Calls.encode node place (now file) (now padding) (now key) (now row))) ⌝ }
-    ensures { λ _. ⌜ now (archive .exit) ≡ effectFor (sizesOf (now (archive .entry))) (idOf (now (archive .entry))) (now (archive .entry)) (Calls.encode node place (now (file .entry)) (now (padding .entry)) (now (key .entry)) (now (row .entry))) ⌝ }
+    requires { ⌜ Passed (archiveAnswer (now archive) (Calls.encode node place (now file) (now padding) (now «tag_key») (now row))) ⌝ }
+    ensures { λ _. ⌜ now (archive .exit) ≡ effectFor (sizesOf (now (archive .entry))) (idOf (now (archive .entry))) (now (archive .entry)) (Calls.encode node place (now (file .entry)) (now (padding .entry)) (now («tag_key» .entry)) (now (row .entry))) ⌝ }
 {
     let pair = field::tables();
     let powers = pair.powers;
@@ -123,7 +123,7 @@ fn fill_place(
     let start = record_start(z, k);
     let kept = linear::row_from(row, 0, z.m);
     let vector = Stream::new(
-        tag::key_array(key),
+        tag::key_array(tag_key),
         tag::id_nonce(1, 0, 0, 0, &archive[4..12]),
     );
     set_marks(archive, k, 1, true);
@@ -139,15 +139,15 @@ pub fn encode(
     place: usize,
     file: &[u8],
     padding: &[u8],
-    key: &[u8],
+    tag_key: &[u8],
     row: &[u8],
 ) -> Outcome
-    ensures answer { λ r. ⌜ r ≡ archiveAnswer (now (archive .entry)) (Calls.encode node place (now (file .entry)) (now (padding .entry)) (now (key .entry)) (now (row .entry))) ⌝ }
-    ensures output { λ _. ⌜ now (archive .exit) ≡ archiveAfter (now (archive .entry)) (Calls.encode node place (now (file .entry)) (now (padding .entry)) (now (key .entry)) (now (row .entry))) ⌝ }
+    ensures answer { λ r. ⌜ r ≡ archiveAnswer (now (archive .entry)) (Calls.encode node place (now (file .entry)) (now (padding .entry)) (now («tag_key» .entry)) (now (row .entry))) ⌝ }
+    ensures output { λ _. ⌜ now (archive .exit) ≡ archiveAfter (now (archive .entry)) (Calls.encode node place (now (file .entry)) (now (padding .entry)) (now («tag_key» .entry)) (now (row .entry))) ⌝ }
 {
-    let answer = encode_check(archive, node, place, file, padding, key, row);
+    let answer = encode_check(archive, node, place, file, padding, tag_key, row);
     if let Outcome::Done = answer {
-        fill_place(archive, node, place, file, padding, key, row);
+        fill_place(archive, node, place, file, padding, tag_key, row);
     }
     answer
 }

@@ -8,7 +8,7 @@ ghost use Rattle.lists.specs.Lists.{pick, at, anyBelow, grid};
 ghost use Rattle.answer.specs.Refusals.{Passed};
 ghost use Rattle.sizes.specs.Sizes.{sizesOutside};
 ghost use Rattle.vector.specs.Vectors.{mixed};
-ghost use Rattle.field.specs.Tables.{PowerTable, LogTable};
+ghost use Rattle.field.specs.PrivateTables.{PowerTable, LogTable};
 ghost use Rattle.sizes.specs.Lengths.{recordLength, archiveLength, recordStart};
 ghost use Rattle.archive.specs.Layout.{sizesOf, idOf, filledIn, badArchive};
 ghost use Rattle.archive.specs.Calls as Calls;

@@ -9,7 +9,7 @@ use native.Mathlib.Omega.{arith}
 use borrow.Author.Tests.{eq-eqb, ne-eqb}
 use lib.Dec.{T, eqb, eqb→eq, lit<}
 use Rattle.lists.specs.Lists.{pick, at}
-use Rattle.lists.proofs.Tests.{all, all-at}
+use Rattle.lists.proofs.AllLaws.{all, all-at}
 use Rattle.field.specs.declared.Inverted.the-variants.{Element, Zero}
 use Rattle.field.specs.Field.{sum, modulus, xtime, xtimes, times, power, last, inverseOf}
 use Rattle.field.specs.Inverse.{inverted}

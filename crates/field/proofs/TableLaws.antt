@@ -8,10 +8,10 @@ use native.Mathlib.Nat.{not-suc-le-zero}
 use native.Mathlib.Omega.{arith}
 use lib.Dec.{T, eqb, eqb→eq, ltb, ltb→lt}
 use Rattle.lists.specs.Lists.{pick, at}
-use Rattle.lists.proofs.Tests.{all, all-at, both}
+use Rattle.lists.proofs.AllLaws.{all, all-at, both}
 use Rattle.lists.proofs.TabLaws.{tab-at, order}
 use Rattle.field.specs.Field.{sum, modulus, xtime, xtimes, times, power}
-use Rattle.field.specs.Tables.{doubled, PowerTable, LogTable}
+use Rattle.field.specs.PrivateTables.{doubled, PowerTable, LogTable}
 use Rattle.field.proofs.TimesLaws.{one-times}
 use Rattle.field.proofs.PowerLaws.{power-lt, power-add}
 

@@ -7,7 +7,7 @@ use lib.Dec.{T, eqb, eqb→eq, lit<}
 use lib.Arith.{lt-one}
 use lib.Pow.{pow-pos, split}
 use lib.Bits.{bitXor, xor-self, xor-zero-r, xor-shr, xor-mod, xor-block, xor-shifted}
-use Rattle.lists.proofs.Tests.{all, all-at}
+use Rattle.lists.proofs.AllLaws.{all, all-at}
 use Rattle.field.specs.Field.{sum, modulus, xtime, xtimes, times}
 use Rattle.field.proofs.XorLaws.{xors, digit, odd, xor-swap}
 use Rattle.field.proofs.SumLaws.{Linear, linear-zero, sum-same, sum-plus, sum-linear}

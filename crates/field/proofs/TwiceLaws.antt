@@ -9,7 +9,7 @@ use lib.ListN.{length, set, length-set}
 use lib.Seq.{getD-set-same, getD-set-other}
 use Rattle.lists.specs.Lists.{at}
 use Rattle.lists.proofs.TabLaws.{order, is-tab}
-use Rattle.field.specs.Tables.{doubled}
+use Rattle.field.specs.PrivateTables.{doubled}
 
 -- the first i entries stand at their places and 255 further on
 pub record Doubled (p : List ℕ) (i : ℕ) (out : List ℕ) : Type 0 where

@@ -1,4 +1,4 @@
 pub mod Field
 pub mod Inverse
-pub mod Tables
+pub mod PrivateTables
 pub mod Laws

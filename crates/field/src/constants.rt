@@ -1,6 +1,6 @@
 // The power and logarithm tables, as constants.
 ghost use mathlib.Core.Path.{_≡_};
-ghost use Rattle.field.specs.Tables.{doubled, PowerTable, LogTable};
+ghost use Rattle.field.specs.PrivateTables.{doubled, PowerTable, LogTable};
 
 // The powers of 03, from the power 0 on.
 const POWERS: [u8; 255] = [

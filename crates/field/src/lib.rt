@@ -7,7 +7,7 @@ ghost use mathlib.Core.Path.{_≡_};
 ghost use Prim.Native.Nat.{_<_};
 ghost use Rattle.field.specs.Field.{times, power};
 ghost use Rattle.field.specs.Inverse.{inverted, invertedOutcome};
-ghost use Rattle.field.specs.Tables.{PowerTable, LogTable};
+ghost use Rattle.field.specs.PrivateTables.{PowerTable, LogTable};
 ghost use Rattle.field.specs.Laws.{FieldLaws};
 use answer::Outcome;
 use answer::Refusal;

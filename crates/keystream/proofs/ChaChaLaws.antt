@@ -8,7 +8,7 @@ use lib.Bits.{bitXor}
 use lib.Dec.{T, ltb, ltb→lt}
 use lib.ListN.{length, getD}
 use Rattle.lists.specs.Lists.{at, put}
-use Rattle.lists.proofs.Tests.{all, all-at}
+use Rattle.lists.proofs.AllLaws.{all, all-at}
 use Rattle.lists.proofs.TabLaws.{length-tab, tab-at, elements}
 use Rattle.lists.proofs.PutLaws.{put-all}
 use Rattle.keystream.specs.declared.chacha.Four.{Four}

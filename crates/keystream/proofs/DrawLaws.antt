@@ -13,7 +13,8 @@ use lib.Pow.{pow-add}
 use Rattle.lists.specs.Lists.{at}
 use Rattle.lists.proofs.TabLaws.{order, tab-at}
 use Rattle.keystream.specs.ChaCha.{add32, byteOf, blockWords, serialised, start, blockOf}
-use Rattle.keystream.specs.Draws.{byteAt, pairsOf, begun, fresh, movedTo, drawn, after}
+use Rattle.keystream.specs.Draws.{byteAt}
+use Rattle.keystream.specs.PrivateStream.{pairsOf, begun, fresh, movedTo, drawn, after}
 use Rattle.keystream.specs.declared.stream.Stream.{Stream}
 use Rattle.keystream.specs.declared.stream.Drawn.{Drawn}
 

@@ -1,3 +1,4 @@
 pub mod ChaCha
 pub mod Block
 pub mod Draws
+pub mod PrivateStream

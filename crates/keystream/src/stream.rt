@@ -2,7 +2,7 @@
 ghost use mathlib.Core.Path.{_≡_};
 ghost use Prim.Native.Nat.{_<_};
 ghost use Rattle.lists.specs.Lists.{at};
-ghost use Rattle.keystream.specs.Draws.{fresh, drawn, DrawLaws};
+ghost use Rattle.keystream.specs.PrivateStream.{fresh, drawn, DrawLaws};
 use super::chacha::block_pairs;
 use super::chacha::start_state;
 

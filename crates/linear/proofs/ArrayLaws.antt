@@ -14,7 +14,7 @@ use denote.Array.{Array, each}
 use denote.Plain.{UInt}
 use borrow.Author.Needs.{elem-fits}
 use Rattle.lists.specs.Lists.{at}
-use Rattle.linear.specs.Elimination.{cells}
+use Rattle.linear.specs.PrivateElimination.{cells}
 
 row-bytes : (xs : List ℕ) (us : List Val) → shadow (Array (UInt w8) 16 .own xs us) → (j : ℕ) → at xs j < 256
 row-bytes xs us p j = elem-fits w8 w8 xs (p .0) j (p .1 .1) tt .fits

@@ -8,9 +8,9 @@ use native.Mathlib.Decide.{ℕ-discrete}
 use lib.Bits.{xor-self, xor-zero-r}
 use Rattle.field.specs.Field.{plus, times}
 use Rattle.field.proofs.TimesLaws.{times-zero}
-use Rattle.linear.specs.Elimination.{Matrix}
-use Rattle.linear.specs.Steps.{Vec, sel, unitAt, swapOp, scaleOp, clearOp}
-use Rattle.linear.proofs.OpLaws.{times-one, sel-same, sel-other, sel-case, Op, id-op, comp-op}
+use Rattle.linear.specs.PrivateElimination.{Matrix}
+use Rattle.linear.specs.PrivateSteps.{Vec, sel, unitAt, swapOp, scaleOp, clearOp}
+use Rattle.linear.proofs.RowOperationLaws.{times-one, sel-same, sel-other, sel-case, Op, id-op, comp-op}
 
 -- the rows e and their combinations t are what one operation makes of the rows a and of the unit matrix
 pub record Reduction (k m : ℕ) (a e t : Matrix) : Type 0 where

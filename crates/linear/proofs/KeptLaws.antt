@@ -11,7 +11,7 @@ use Rattle.lists.specs.Lists.{pick, at, put}
 use Rattle.lists.proofs.TabLaws.{order, tab-at, is-tab, tab-same}
 use Rattle.lists.proofs.PutLaws.{length-put, put-front, put-above}
 use Rattle.linear.specs.declared.rows.Row.{Row}
-use Rattle.linear.specs.Rows.{kept}
+use Rattle.linear.specs.PrivateRows.{kept}
 
 -- m elements stored in sixteen zeros
 pub row-stored : (m : ℕ) (v : ℕ → ℕ) {bytes : List ℕ} → m ≤ 16 → bytes ≡ put m 0 v (replicate 16 0) → record { bytes = bytes } ≡ kept m v

@@ -1,9 +1,9 @@
 pub mod KeptLaws
-pub mod OpLaws
+pub mod RowOperationLaws
 pub mod EchelonLaws
-pub mod FactLaws
-pub mod StepLaws
+pub mod RankLaws
+pub mod ColumnLaws
 pub mod ArrayLaws
-pub mod RowLaws
-pub mod SameLaws
-pub mod LastLaws
+pub mod RowStoreLaws
+pub mod AlikeLaws
+pub mod LastRowLaws

@@ -1,3 +1,3 @@
-pub mod Rows
-pub mod Elimination
-pub mod Steps
+pub mod PrivateRows
+pub mod PrivateElimination
+pub mod PrivateSteps

@@ -8,9 +8,9 @@ ghost use mathlib.Core.Path.{_≡_};
 ghost use Prim.Native.Nat.{ℕ, _<_, _≤_};
 ghost use Rattle.lists.specs.Lists.{at};
 ghost use Rattle.field.specs.Field.{plus, times};
-ghost use Rattle.field.specs.Tables.{PowerTable, LogTable};
-ghost use Rattle.linear.specs.Elimination.{cells, Reduces, LastIsCombined};
-ghost use Rattle.linear.specs.Steps.{unitAt, swapOp, scaleOp, Made};
+ghost use Rattle.field.specs.PrivateTables.{PowerTable, LogTable};
+ghost use Rattle.linear.specs.PrivateElimination.{cells, Reduces, LastIsCombined};
+ghost use Rattle.linear.specs.PrivateSteps.{unitAt, swapOp, scaleOp, Operated};
 use field::Inverted;
 
 // The inverse of an element that is not zero.
@@ -27,7 +27,7 @@ fn inverse_of(a: u8) -> u8
 // Rows i and j change places.
 fn swapped(a: [[u8; 16]; 16], i: usize, j: usize) -> [[u8; 16]; 16]
     requires { ⌜ (i < 16) × (j < 16) ⌝ }
-    ensures { λ r. ⌜ Made 16 (swapOp i j) a r ⌝ }
+    ensures { λ r. ⌜ Operated 16 (swapOp i j) a r ⌝ }
 {
     let mut out = a;
     let x = a[i];
@@ -58,7 +58,7 @@ fn scaled(
     c: u8,
 ) -> [[u8; 16]; 16]
     requires { ⌜ PowerTable (now powers) × LogTable (now logs) × (r < 16) ⌝ }
-    ensures { λ s. ⌜ Made 16 (scaleOp r c) a s ⌝ }
+    ensures { λ s. ⌜ Operated 16 (scaleOp r c) a s ⌝ }
 {
     let mut out = a;
     let v = a[r];

@@ -3,9 +3,9 @@ ghost use mathlib.Core.Path.{_≡_};
 ghost use Prim.Native.Nat.{_+_, _≤_};
 ghost use lib.ListN.{length};
 ghost use Rattle.lists.specs.Lists.{at};
-ghost use Rattle.field.specs.Tables.{PowerTable, LogTable};
+ghost use Rattle.field.specs.PrivateTables.{PowerTable, LogTable};
 ghost use Rattle.vector.specs.Vectors.{product};
-ghost use Rattle.linear.specs.Rows.{kept};
+ghost use Rattle.linear.specs.PrivateRows.{kept};
 
 // A row of m elements, kept as sixteen bytes, those past m zero.
 pub struct Row {

@@ -3,4 +3,4 @@ pub mod CountLaws
 pub mod PutLaws
 pub mod OverLaws
 pub mod AnyLaws
-pub mod Tests
+pub mod AllLaws

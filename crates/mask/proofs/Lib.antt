@@ -1,3 +1,3 @@
 pub mod MaskLaws
-pub mod RowLaws
+pub mod MaskRowLaws
 pub mod SetupLaws

@@ -13,7 +13,8 @@ use Rattle.answer.specs.declared.Refusal.{Refusal}
 use Rattle.answer.proofs.RefusalLaws.{accepted, same, inside, after-done, after-refused}
 use Rattle.field.proofs.SumLaws.{sum-same}
 use Rattle.field.proofs.TimesLaws.{times-comm}
-use Rattle.keystream.specs.Draws.{byteAt, fresh, drawn, after}
+use Rattle.keystream.specs.Draws.{byteAt}
+use Rattle.keystream.specs.PrivateStream.{fresh, drawn, after}
 use Rattle.keystream.specs.declared.stream.Stream.{Stream}
 use Rattle.keystream.proofs.DrawLaws.{draws-in-order}
 use Rattle.tag.specs.KeyVector.{keyVector}
@@ -22,7 +23,7 @@ use Rattle.vector.proofs.VectorLaws.{mixed-same, product-keys}
 use Rattle.vector.proofs.AddedLaws.{added-same}
 use Rattle.mask.specs.Masks.{F3, maskRow, maskCoefficient, auxiliary, mask, maskSum}
 use Rattle.mask.specs.Setup.{setupAnswer, setupOut}
-use Rattle.mask.proofs.RowLaws.{vector-filled}
+use Rattle.mask.proofs.MaskRowLaws.{vector-filled}
 
 -- ---- Setup
 

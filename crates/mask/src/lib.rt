@@ -17,11 +17,11 @@ pub use rows::add_mask;
 pub use rows::mask_sum;
 
 // Whether one of the first len key elements is not zero.
-fn any_element(key: &[u8], id: &[u8], len: usize) -> bool
-    requires { ⌜ (length (now key) ≡ 32) × (length (now id) ≡ 8) ⌝ }
-    ensures { λ r. ⌜ r ≡ anyBelow len (λ e. differs (keyVector (now (key .entry)) (now (id .entry)) e) 0) ⌝ }
+fn any_element(tag_key: &[u8], id: &[u8], len: usize) -> bool
+    requires { ⌜ (length (now «tag_key») ≡ 32) × (length (now id) ≡ 8) ⌝ }
+    ensures { λ r. ⌜ r ≡ anyBelow len (λ e. differs (keyVector (now («tag_key» .entry)) (now (id .entry)) e) 0) ⌝ }
 {
-    let mut s = Stream::new(tag::key_array(key), tag::id_nonce(1, 0, 0, 0, id));
+    let mut s = Stream::new(tag::key_array(tag_key), tag::id_nonce(1, 0, 0, 0, id));
     for _ in 0..len {
         let d = s.next();
         if d.byte != 0 {

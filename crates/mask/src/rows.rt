@@ -4,8 +4,8 @@ ghost use Prim.Native.Nat.{ℕ, _+_, _-_, _<_, _≤_};
 ghost use mathlib.Core.List.{_∷_};
 ghost use lib.ListN.{length};
 ghost use Rattle.lists.specs.Lists.{at};
-ghost use Rattle.field.specs.Tables.{PowerTable, LogTable};
-ghost use Rattle.keystream.specs.Draws.{drawn, after};
+ghost use Rattle.field.specs.PrivateTables.{PowerTable, LogTable};
+ghost use Rattle.keystream.specs.PrivateStream.{drawn, after};
 ghost use Rattle.vector.specs.Vectors.{added};
 ghost use Rattle.mask.specs.Masks.{maskRow, maskCoefficient, auxiliary, mask, maskSum};
 use keystream::Stream;
@@ -99,13 +99,13 @@ pub fn add_mask(key: [u8; 32], id: &[u8], seed: &[u8], n: usize, out: &mut [u8],
 }
 
 // The mask sum of a seed, made from auxiliary elements.
-pub fn mask_sum(key: [u8; 32], seed: &[u8], n: usize, elements: &[u8]) -> u8
-    requires { ⌜ (1 ≤ n) × (length (now seed) ≡ 11) × (n - 1 ≤ length (now elements)) ⌝ }
-    ensures { λ r. ⌜ r ≡ maskSum n (maskCoefficient key (now (seed .entry))) (now (elements .entry)) ⌝ }
+pub fn mask_sum(key: [u8; 32], seed: &[u8], n: usize, auxiliary: &[u8]) -> u8
+    requires { ⌜ (1 ≤ n) × (length (now seed) ≡ 11) × (n - 1 ≤ length (now auxiliary)) ⌝ }
+    ensures { λ r. ⌜ r ≡ maskSum n (maskCoefficient key (now (seed .entry))) (now (auxiliary .entry)) ⌝ }
 {
     let pair = field::tables();
     let powers = pair.powers;
     let logs = pair.logs;
     let coefficients = Stream::new(key, seed_nonce(seed));
-    tag::product_drawn(&powers, &logs, elements, 0, n - 1, coefficients)
+    tag::product_drawn(&powers, &logs, auxiliary, 0, n - 1, coefficients)
 }

@@ -14,7 +14,7 @@ use Rattle.lists.proofs.AnyLaws.{any-first, any-rest, any-below}
 use Rattle.answer.specs.declared.Outcome.the-variants.{Done}
 use Rattle.answer.specs.Refusals.{afterwards}
 use Rattle.answer.proofs.RefusalLaws.{accepted, same, inside}
-use Rattle.bits.specs.Fields.{Field, _wide_, widths, bytesFor, fieldAt}
+use Rattle.bits.specs.Fields.{BitField, _wide_, widths, bytesFor, fieldAt}
 use Rattle.bits.proofs.NumberLaws.{number-same, number-zero}
 use Rattle.bits.proofs.PackLaws.{pack-length, pack-field, pack-spare}
 use Rattle.bits.proofs.AppendLaws.{widths-more}
@@ -34,7 +34,7 @@ items-width c i zero = refl
 items-width c i (suc k) = rw (items-width c (suc i) k) (omega arith)
 
 -- the fields before item j
-abbrev pub fieldsBefore : Challenge → ℕ → List Field
+abbrev pub fieldsBefore : Challenge → ℕ → List BitField
 fieldsBefore c j = (4 wide 1) ∷ (3 wide c .node) ∷ (4 wide length (c .places)) ∷ items c 0 j
 
 -- ---- a challenge in rule
@@ -67,7 +67,7 @@ module _ (c : Challenge) (R : InRule c) (even : length (c .coefficients) ≡ len
   abbrev s : List ℕ
   s = challengeBytes c
 
-  abbrev before : ℕ → List Field
+  abbrev before : ℕ → List BitField
   before = fieldsBefore c
 
   before-width : (j : ℕ) → widths (before j) ≡ challengeBits j
@@ -80,7 +80,7 @@ module _ (c : Challenge) (R : InRule c) (even : length (c .coefficients) ≡ len
   fields-split j h =
       let q : count ≡ j + suc (count - suc j) = omega arith in
       let z : 0 + j ≡ j = omega arith in
-      ap (λ (fs : List Field). (4 wide 1) ∷ (3 wide c .node) ∷ (4 wide count) ∷ fs)
+      ap (λ (fs : List BitField). (4 wide 1) ∷ (3 wide c .node) ∷ (4 wide count) ∷ fs)
       (ap (items c 0) q ∙ items-split c 0 j (suc (count - suc j)) ∙ rw z refl)
 
   pub bytes-length : length s ≡ challengeLength count

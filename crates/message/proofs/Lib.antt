@@ -1,6 +1,6 @@
-pub mod ReadLaws
-pub mod RuleLaws
-pub mod MessageLaws
+pub mod ChallengeReadLaws
+pub mod ChallengeRuleLaws
+pub mod ChallengeWriteLaws
 pub mod ChallengeLaws
 pub mod NamedLaws
 pub mod ResponseLaws

@@ -15,7 +15,7 @@ use Rattle.sizes.specs.declared.Sizes.{Sizes}
 use Rattle.vector.specs.Vectors.{mixed, added}
 use Rattle.vector.proofs.AddedLaws.{added-at, mixed-more, vector-in}
 use Rattle.message.specs.Challenge.{Challenge, challengeBits, challengeOf, malformedChallenge, notThere}
-use Rattle.message.proofs.ReadLaws.{readable}
+use Rattle.message.proofs.ChallengeReadLaws.{readable}
 
 -- the vectors of the first `count` named places, combined
 abbrev pub firstNamed : Challenge → List ℕ → ℕ → ℕ → ℕ → ℕ → ℕ

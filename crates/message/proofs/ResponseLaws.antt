@@ -12,7 +12,7 @@ use borrow.Author.Tests.{lt-ltb, le-ltb}
 use Rattle.lists.specs.Lists.{pick, at, tab}
 use Rattle.lists.proofs.TabLaws.{order, length-tab, tab-at, tab-same}
 use Rattle.lists.proofs.PutLaws.{skip}
-use Rattle.lists.proofs.Tests.{all, all-at}
+use Rattle.lists.proofs.AllLaws.{all, all-at}
 use Rattle.field.specs.Field.{plus}
 use Rattle.bits.specs.Fields.{_wide_, bitOf, bitsOf, widths, number, packed, pack, fieldAt}
 use Rattle.bits.proofs.PackLaws.{pack-length}

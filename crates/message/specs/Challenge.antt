@@ -11,7 +11,7 @@ use Rattle.answer.specs.declared.Outcome.the-variants.{Done}
 use Rattle.answer.specs.declared.Refusal.the-variants.{Length, Malformed}
 use Rattle.answer.specs.Refusals.{refuse, afterwards, differs, outside}
 use Rattle.sizes.specs.declared.Sizes.{Sizes}
-use Rattle.bits.specs.Fields.{Field, _wide_, bytesFor, pack, fieldAt}
+use Rattle.bits.specs.Fields.{BitField, _wide_, bytesFor, pack, fieldAt}
 
 -- a challenge: a node (document 01: box), and places with a coefficient each
 pub record Challenge : Type 0 where
@@ -23,11 +23,11 @@ abbrev pub challengeFor : ℕ → List ℕ → List ℕ → Challenge
 challengeFor node places coefficients = record { node = node; places = places; coefficients = coefficients }
 
 -- `count` items, from item i on
-unfoldable pub items : Challenge → ℕ → ℕ → List Field
+unfoldable pub items : Challenge → ℕ → ℕ → List BitField
 items c i zero = []
 items c i (suc count) = (3 wide at (c .places) i) ∷ (8 wide at (c .coefficients) i) ∷ items c (suc i) count
 
-abbrev pub challengeFields : Challenge → List Field
+abbrev pub challengeFields : Challenge → List BitField
 challengeFields c = (4 wide 1) ∷ (3 wide c .node) ∷ (4 wide length (c .places)) ∷ items c 0 (length (c .places))
 
 unfoldable pub challengeBytes : Challenge → List ℕ

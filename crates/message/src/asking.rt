@@ -5,7 +5,7 @@ ghost use Prim.Native.Nat.{ℕ, _+_, _-_, _*_, _<_, _≤_};
 ghost use lib.ListN.{length};
 ghost use lib.Dec.{ltb, leb};
 ghost use Rattle.lists.specs.Lists.{at, anyBelow};
-ghost use Rattle.field.specs.Tables.{PowerTable, LogTable};
+ghost use Rattle.field.specs.PrivateTables.{PowerTable, LogTable};
 ghost use Rattle.bits.specs.Fields.{fieldAt};
 ghost use Rattle.vector.specs.Vectors.{mixed, added};
 ghost use Rattle.message.specs.Challenge.{challengeFor, challengeBits, challengeLength, challengeBytes, outOfRule, challengeOf, malformedChallenge, challengeAnswer, challengeOut, notThere};

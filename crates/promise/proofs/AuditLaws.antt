@@ -37,14 +37,14 @@ use Rattle.sizes.proofs.SizeLaws.{not-sizes-outside}
 use Rattle.archive.proofs.BlockLaws.{coded-row}
 use Rattle.promise.specs.Table.{Table, element}
 use Rattle.promise.specs.Image.{vector, image}
-use Rattle.promise.specs.Demand3.{Given, setting, elements, Honest, message, sent, nodeRows, says, namedRow, namedBlock, expected, AuditHolds, ChangesAddUp}
+use Rattle.promise.specs.Demand3.{Given, setting, givenAuxiliary, Honest, message, sent, nodeRows, says, namedRow, namedBlock, expected, AuditHolds, ChangesAddUp}
 use Rattle.promise.proofs.ImageLaws.{Fit, image-sizes, image-id, image-good, image-filled, image-byte, record-mixed}
 
 -- lengths that Setup tested
 pub record Keys (g : Given) : Type 0 where
   pub tag-size : length (g .tagKey) ≡ 32
   pub mask-size : length (g .maskKey) ≡ 32
-  pub elements-are : elements g ≡ auxiliary (g .z .n) (vector (setting g)) (maskRow (g .maskKey) (g .id))
+  pub auxiliary-are : givenAuxiliary g ≡ auxiliary (g .z .n) (vector (setting g)) (maskRow (g .maskKey) (g .id))
 
 module _ (g : Given) (F : Fit (setting g)) (K : Keys g) (t : Table) (h : Honest g t) where
   abbrev A : List ℕ
@@ -83,10 +83,10 @@ module _ (g : Given) (F : Fit (setting g)) (K : Keys g) (t : Table) (h : Honest 
 
   -- ---- Prove
 
-  elements-length : length (elements g) ≡ n - 1
-  elements-length = ap length (K .elements-are) ∙ length-auxiliary n _ _
+  elements-length : length (givenAuxiliary g) ≡ n - 1
+  elements-length = ap length (K .auxiliary-are) ∙ length-auxiliary n _ _
 
-  proves : proveAnswer A (g .maskKey) (elements g) (h .seed) (message g t A h) (h .out) ≡ Done
+  proves : proveAnswer A (g .maskKey) (givenAuxiliary g) (h .seed) (message g t A h) (h .out) ≡ Done
   unfolding proveAnswer refuse proveFor anyOf
   proves =
       rw (
@@ -95,7 +95,7 @@ module _ (g : Given) (F : Fit (setting g)) (K : Keys g) (t : Table) (h : Honest 
         challenge-is,
         image-sizes (setting g) F t,
         eq-eqb (length (g .maskKey)) 32 (K .mask-size),
-        eq-eqb (length (elements g)) (n - 1) elements-length,
+        eq-eqb (length (givenAuxiliary g)) (n - 1) elements-length,
         eq-eqb (length (h .seed)) 11 (h .seed-size),
         eq-eqb (length (h .out)) (responseLength n) (h .out-size),
         lt-leb (g .z .nodes) (h .c .node) (h .node-there),
@@ -137,7 +137,7 @@ module _ (g : Given) (F : Fit (setting g)) (K : Keys g) (t : Table) (h : Honest 
       mixed-vectors count (at (h .c .coefficients)) _ _ i (λ j lj. flat-at (g .z .places) (g .z .m) _ (at (h .c .places) j) i (h .places-there j lj) l)
 
   abbrev total : ℕ
-  total = maskSum n (maskCoefficient (g .maskKey) (h .seed)) (elements g)
+  total = maskSum n (maskCoefficient (g .maskKey) (h .seed)) (givenAuxiliary g)
 
   abbrev tagged : ℕ
   tagged = product (blockLength (g .z)) block (vector (setting g))
@@ -165,7 +165,7 @@ module _ (g : Given) (F : Fit (setting g)) (K : Keys g) (t : Table) (h : Honest 
   expected-sum = response-sum n (h .c .node) block tagged hidden (h .seed) total (F .ranged .n-low) (h .seed-size)
 
   total-is : product (n - 2) hidden (vector (setting g)) ≡ total
-  total-is = sym (ap (maskSum n (maskCoefficient (g .maskKey) (h .seed))) (K .elements-are) ∙ mask-sum n _ (vector (setting g)) _)
+  total-is = sym (ap (maskSum n (maskCoefficient (g .maskKey) (h .seed))) (K .auxiliary-are) ∙ mask-sum n _ (vector (setting g)) _)
 
   abbrev judged : List ℕ → Bool
   judged response = accepts (g .z) (keyVector (g .tagKey) (g .id)) (givenRow (g .z) (nodeRows g t A h) (h .c)) response

@@ -22,7 +22,7 @@ use Rattle.promise.proofs.TableLaws.{Fine, AllFine, run-fine}
 use Rattle.promise.proofs.ImageLaws.{Fit, image-mark, image-byte, record-block, record-tag, record-row, opened-is}
 use Rattle.promise.proofs.RunLaws.{runs}
 use Rattle.promise.proofs.AuditLaws.{Keys, audit-holds, altered-holds}
-use Rattle.promise.proofs.FreeLaws.{inventory, read}
+use Rattle.promise.proofs.ReadAndInventoryLaws.{inventory, read}
 
 -- ---- what Open and Setup tested
 
@@ -39,7 +39,7 @@ keys g =
     record {
       tag-size = same _ _ (any-first _ _ lengths);
       mask-size = same _ _ (any-first _ _ (any-rest _ _ lengths));
-      elements-are = rw (g .setup-done);
+      auxiliary-are = rw (g .setup-done);
     }
 
 open-is : (g : Given) → openOut (g .z) (g .id) (g .lent) ≡ image (setting g) allEmpty

@@ -2,12 +2,12 @@ pub mod TableLaws
 pub mod ImageLaws
 pub mod RunLaws
 pub mod AuditLaws
-pub mod FreeLaws
+pub mod ReadAndInventoryLaws
 pub mod DemandLaws
 pub mod Unmask
 pub mod ReadFixed
 pub mod InventoryFixed
 pub mod Life
 pub mod Worked
-pub mod Tries
+pub mod SmallCases
 pub mod Hollow

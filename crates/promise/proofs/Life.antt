@@ -28,7 +28,7 @@ use Rattle.archive.specs.Calls.{answerFor}
 use Rattle.archive.specs.Prove.{responseFor}
 use Rattle.promise.specs.Table.{allEmpty, isFilled, numbered, repairedRow, written, tableAnswers}
 use Rattle.promise.specs.Image.{image}
-use Rattle.promise.specs.Demand3.{Given, Admitted, setting, elements, Honest, message, expected, Demand}
+use Rattle.promise.specs.Demand3.{Given, Admitted, setting, givenAuxiliary, Honest, message, expected, Demand}
 use Rattle.promise.specs.Life as L
 use Rattle.promise.specs.Life.{calls, table, archive, archiveBytes, Lived}
 use Rattle.promise.proofs.DemandLaws.{demand3, run-is}
@@ -39,7 +39,7 @@ pub life-opens : openAnswer L.z L.id L.lent ≡ Done
 unfolding openAnswer refuse sizesOutside outside anyOf tab
 life-opens = refl
 
-pub life-sets-up : setupAnswer L.tagKey L.maskKey L.id 3 L.elementsLent ≡ Done
+pub life-sets-up : setupAnswer L.tagKey L.maskKey L.id 3 L.auxiliaryLent ≡ Done
 unfolding setupAnswer refuse outside anyOf anyBelow tab keyVector F1 byteAt half quarterOf setFour quarter quadruples quartersTo rounds blockWords serialised wordAt start blockOf
 life-sets-up = refl
 
@@ -90,7 +90,7 @@ life-vector : vectorOut L.tagKey L.id 3 2 (tab 5 (λ i. 0)) ≡ 0x04 ∷ 0x22 �
 unfolding vectorOut vectorAnswer afterwards refuse outside anyOf tab keyVector F1 byteAt half quarterOf setFour quarter quadruples quartersTo rounds blockWords serialised wordAt start blockOf
 life-vector = refl
 
-life-elements : elements given ≡ 0xa7 ∷ 0xaa ∷ []
+life-elements : givenAuxiliary given ≡ 0xa7 ∷ 0xaa ∷ []
 unfolding setupOut afterwards setupAnswer refuse outside anyOf anyBelow auxiliary maskRow F2 product tab keyVector F1 byteAt half quarterOf setFour quarter quadruples quartersTo rounds blockWords serialised wordAt start blockOf sum times xtimes xtime modulus
 life-elements = refl
 
@@ -151,7 +151,7 @@ lived =
       answers = life-demand .answers ∙ table-answers;
       archive-is = run-is given calls life-admitted ∙ image-is;
       vector-is = life-vector;
-      elements-are = life-elements;
+      auxiliary-are = life-elements;
       audit = audited;
       message-is = life-message;
       sent-is = life-demand .audits audited .sends ∙ life-expected;

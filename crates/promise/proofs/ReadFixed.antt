@@ -9,7 +9,7 @@ use Rattle.answer.proofs.RefusalLaws.{accepted, never-both, same-refusal}
 use Rattle.archive.specs.Layout.{sizesOf}
 use Rattle.archive.specs.Read.{readBefore, ReadAllows}
 use Rattle.answer.specs.declared.Counted.the-variants.{Count, Refused}
-use Rattle.archive.proofs.GoodLaws.{good-sizes}
+use Rattle.archive.proofs.GoodArchiveLaws.{good-sizes}
 use Rattle.archive.proofs.ReadLaws.{taken-same, solution-only}
 use Rattle.promise.specs.Companions.{ReadIsFixed}
 

@@ -18,9 +18,9 @@ use Rattle.answer.specs.declared.Counted.the-variants.{Count, Refused}
 -- demand 2: "unmasking gives the block that was masked", that is its first n−2 elements: for every archive, auxiliary list, seed and challenge that Prove accepts
 abbrev pub Unmasking : Type 0
 Unmasking =
-    (s maskKey elements seed message lent out : List ℕ) → proveAnswer s maskKey elements seed message lent ≡ Done → length out ≡ sizesOf s .n - 2
-    → (unmaskAnswer (sizesOf s .n) (idOf s) maskKey (proveOut s maskKey elements seed message lent) out ≡ Done)
-    × (unmaskOut (sizesOf s .n) (idOf s) maskKey (proveOut s maskKey elements seed message lent) out
+    (s maskKey auxiliary seed message lent out : List ℕ) → proveAnswer s maskKey auxiliary seed message lent ≡ Done → length out ≡ sizesOf s .n - 2
+    → (unmaskAnswer (sizesOf s .n) (idOf s) maskKey (proveOut s maskKey auxiliary seed message lent) out ≡ Done)
+    × (unmaskOut (sizesOf s .n) (idOf s) maskKey (proveOut s maskKey auxiliary seed message lent) out
     ≡ tab (sizesOf s .n - 2) (namedByte (sizesOf s) s (challengeOf message)))
 
 -- two answers of Read that may differ only in the number of places consulted

@@ -47,15 +47,15 @@ pub record Given : Type 0 where
   -- "The keys are ones that Setup accepted for the archive's id and n"
   pub tagKey : List ℕ
   pub maskKey : List ℕ
-  pub elements-lent : List ℕ
-  pub setup-done : setupAnswer tagKey maskKey id (z .n) elements-lent ≡ Done
+  pub auxiliary-lent : List ℕ
+  pub setup-done : setupAnswer tagKey maskKey id (z .n) auxiliary-lent ≡ Done
 
 abbrev pub setting : Given → Setting
 setting g = record { z = g .z; id = g .id; file = g .file; padding = g .padding; tagKey = g .tagKey }
 
 -- "Setup's elements"
-abbrev pub elements : Given → List ℕ
-elements g = setupOut (g .tagKey) (g .maskKey) (g .id) (g .z .n) (g .elements-lent)
+abbrev pub givenAuxiliary : Given → List ℕ
+givenAuxiliary g = setupOut (g .tagKey) (g .maskKey) (g .id) (g .z .n) (g .auxiliary-lent)
 
 -- an Encode that takes the one file, padding and tag key; its row is of bytes
 abbrev pub TakesOne : Given → Call → Type 0
@@ -91,7 +91,7 @@ module _ (g : Given) (t : Table) (archive : List ℕ) (h : Honest g t) where
 
   -- "Prove on it with Setup's elements, the mask key and a seed"
   abbrev pub sent : List ℕ
-  sent = proveOut archive (g .maskKey) (elements g) (h .seed) message (h .out)
+  sent = proveOut archive (g .maskKey) (givenAuxiliary g) (h .seed) message (h .out)
 
   -- "the box's rows from this table, zeros for empty places"
   abbrev pub nodeRows : List ℕ
@@ -111,11 +111,11 @@ module _ (g : Given) (t : Table) (archive : List ℕ) (h : Honest g t) where
   -- "document 01's response" for that block and its tag
   abbrev pub expected : List ℕ
   expected =
-      responseFor (g .z .n) (g .id) (g .maskKey) (elements g) (h .seed) (h .c .node) namedBlock
+      responseFor (g .z .n) (g .id) (g .maskKey) (givenAuxiliary g) (h .seed) (h .c .node) namedBlock
       (product (blockLength (g .z)) namedBlock (vector (setting g)))
 
   pub record AuditHolds : Type 0 where
-    pub proves : proveAnswer archive (g .maskKey) (elements g) (h .seed) message (h .out) ≡ Done
+    pub proves : proveAnswer archive (g .maskKey) (givenAuxiliary g) (h .seed) message (h .out) ≡ Done
     pub sends : sent ≡ expected
     pub accepts : says sent ≡ Accepted
 

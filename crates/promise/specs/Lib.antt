@@ -4,5 +4,5 @@ pub mod Demand3
 pub mod Companions
 pub mod Life
 pub mod Worked
-pub mod Tries
+pub mod SmallCases
 pub mod Hollow

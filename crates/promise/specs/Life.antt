@@ -13,7 +13,7 @@ use Rattle.audit.specs.declared.Judgement.the-variants.{Accepted}
 use Rattle.archive.specs.Open.{openAnswer, openOut}
 use Rattle.archive.specs.Calls.{Call, encode, lose, repair, archiveAnswers, archiveRun}
 use Rattle.promise.specs.Table.{Table, allEmpty, tableRun}
-use Rattle.promise.specs.Demand3.{Given, elements, Admitted, Honest, message, sent, says}
+use Rattle.promise.specs.Demand3.{Given, givenAuxiliary, Admitted, Honest, message, sent, says}
 
 abbrev pub z : Sizes
 z = record { n = 3; m = 2; places = 2; nodes = 3 }
@@ -65,11 +65,11 @@ calls =
 abbrev pub lent : List ℕ
 lent = tab 54 (λ i. 0)
 
-abbrev pub elementsLent : List ℕ
-elementsLent = 0 ∷ 0 ∷ []
+abbrev pub auxiliaryLent : List ℕ
+auxiliaryLent = 0 ∷ 0 ∷ []
 
 -- the setting, once Open and Setup have accepted it
-abbrev pub given : openAnswer z id lent ≡ Done → setupAnswer tagKey maskKey id 3 elementsLent ≡ Done → Bytes file → Given
+abbrev pub given : openAnswer z id lent ≡ Done → setupAnswer tagKey maskKey id 3 auxiliaryLent ≡ Done → Bytes file → Given
 given opens sets-up bytes =
     record {
       z = z;
@@ -83,7 +83,7 @@ given opens sets-up bytes =
       padding-size = refl;
       tagKey = tagKey;
       maskKey = maskKey;
-      elements-lent = elementsLent;
+      auxiliary-lent = auxiliaryLent;
       setup-done = sets-up;
     }
 
@@ -105,14 +105,14 @@ responseBytes =
 
 pub record Lived : Type 0 where
   pub opens : openAnswer z id lent ≡ Done
-  pub sets-up : setupAnswer tagKey maskKey id 3 elementsLent ≡ Done
+  pub sets-up : setupAnswer tagKey maskKey id 3 auxiliaryLent ≡ Done
   pub file-bytes : Bytes file
   pub admitted : Admitted (given opens sets-up file-bytes) allEmpty calls
   pub answers : archiveAnswers (openOut z id lent) calls
       ≡ Done ∷ Refused PlaceFilled ∷ Done ∷ Refused Length ∷ Done ∷ Refused PlaceEmpty ∷ Done ∷ Refused NoSuchPlace ∷ Done ∷ Done ∷ []
   pub archive-is : archive ≡ archiveBytes
   pub vector-is : vectorOut tagKey id 3 2 (tab 5 (λ i. 0)) ≡ 0x04 ∷ 0x22 ∷ 0x0a ∷ 0x59 ∷ 0x61 ∷ []
-  pub elements-are : elements (given opens sets-up file-bytes) ≡ 0xa7 ∷ 0xaa ∷ []
+  pub auxiliary-are : givenAuxiliary (given opens sets-up file-bytes) ≡ 0xa7 ∷ 0xaa ∷ []
   -- node 2, places 0 and 1, coefficients 07 and b5
   pub audit : Honest (given opens sets-up file-bytes) table
   pub message-is : message (given opens sets-up file-bytes) table archive audit ≡ 0x14 ∷ 0x40 ∷ 0x1c ∷ 0xda ∷ 0x80 ∷ []

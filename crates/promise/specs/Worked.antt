@@ -93,7 +93,7 @@ pub record Worked : Type 0 where
   -- the tags c0 and 82 combined by the same coefficients
   pub tags : plus (times 0x02 0xc0) (times 0x03 0x82) ≡ 0x06
   -- "Mask rows 05, 09: auxiliary b9, f7; coefficients 01, 02: mask 17, sum 4c"
-  pub elements : auxiliary 3 vector maskRows ≡ 0xb9 ∷ 0xf7 ∷ []
+  pub auxiliary-is : auxiliary 3 vector maskRows ≡ 0xb9 ∷ 0xf7 ∷ []
   pub mask-17 : mask 3 coefficients maskRows 0 ≡ 0x17
   pub sum-4c : maskSum 3 coefficients (0xb9 ∷ 0xf7 ∷ []) ≡ 0x4c
   -- "That block under coefficient 01: masked ba, clear 02 0c, tag 06: accepted (4a on either side)"

@@ -2,7 +2,7 @@
 ghost use Rattle.promise.specs.Demand3.{Demand3};
 ghost use Rattle.promise.specs.Life.{Lived};
 ghost use Rattle.promise.specs.Worked.{Worked};
-ghost use Rattle.promise.specs.Tries.{Tries};
+ghost use Rattle.promise.specs.SmallCases.{SmallCases};
 ghost use Rattle.promise.specs.Hollow.{Hollow};
 ghost use Rattle.promise.specs.Companions.{Unmasking, ReadIsFixed, InventoryIsFixed};
 
@@ -37,8 +37,8 @@ pub fn worked_values()
 {}
 
 // What a reader would try on the definitions first.
-pub fn first_tries()
-    ensures { λ _. ⌜ Tries ⌝ }
+pub fn small_cases()
+    ensures { λ _. ⌜ SmallCases ⌝ }
 {}
 
 // For each mistake and hollow program that document 01 lists, the fact that rules it out.

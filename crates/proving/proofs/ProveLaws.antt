@@ -18,13 +18,13 @@ use Rattle.bits.specs.Fields.{fieldAt}
 use Rattle.sizes.specs.declared.Sizes.{Sizes}
 use Rattle.vector.specs.Vectors.{added}
 use Rattle.message.specs.Challenge.{Challenge, challengeBits, challengeOf, malformedChallenge, notThere}
-use Rattle.message.proofs.ReadLaws.{readable}
+use Rattle.message.proofs.ChallengeReadLaws.{readable}
 use Rattle.message.proofs.NamedLaws.{firstNamed, place-there, named-read}
 use Rattle.sizes.specs.Lengths.{placeCount, recordLength, placeNumber, recordStart}
 use Rattle.archive.specs.Layout.{sizesOf, filledIn, byteIn, badArchive}
 use Rattle.archive.specs.Prove.{proveFor, proveAnswer, namedByte}
 use Rattle.sizes.proofs.PlaceLaws.{number-low, count-low, record-fits}
-use Rattle.archive.proofs.GoodLaws.{good-sizes, good-length}
+use Rattle.archive.proofs.GoodArchiveLaws.{good-sizes, good-length}
 use Rattle.archive.proofs.ProveCheckLaws.{lengths-read}
 
 -- ---- the refusals one by one, as the code finds their tests

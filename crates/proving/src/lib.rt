@@ -5,7 +5,7 @@ ghost use Prim.Native.Nat.{ℕ, _+_, _-_, _<_, _≤_};
 ghost use lib.ListN.{length};
 ghost use Rattle.lists.specs.Lists.{at, anyBelow};
 ghost use Rattle.answer.specs.Refusals.{Passed};
-ghost use Rattle.field.specs.Tables.{PowerTable, LogTable};
+ghost use Rattle.field.specs.PrivateTables.{PowerTable, LogTable};
 ghost use Rattle.sizes.specs.Lengths.{responseLength, recordLength};
 ghost use Rattle.message.specs.Challenge.{challengeOf, malformedChallenge, notThere};
 ghost use Rattle.archive.specs.Layout.{sizesOf, idOf, filledIn, badArchive};
@@ -37,12 +37,12 @@ fn any_named_empty(archive: &[u8], message: &[u8]) -> bool
 fn prove_check(
     archive: &[u8],
     mask_key: &[u8],
-    elements: &[u8],
+    auxiliary: &[u8],
     seed: &[u8],
     message: &[u8],
     response: &[u8],
 ) -> Outcome
-    ensures { λ r. ⌜ r ≡ proveAnswer (now (archive .entry)) (now («mask_key» .entry)) (now (elements .entry)) (now (seed .entry)) (now (message .entry)) (now (response .entry)) ⌝ }
+    ensures { λ r. ⌜ r ≡ proveAnswer (now (archive .entry)) (now («mask_key» .entry)) (now (auxiliary .entry)) (now (seed .entry)) (now (message .entry)) (now (response .entry)) ⌝ }
 {
     if bad_archive(archive) {
         return Outcome::Refused(Refusal::BadArchive);
@@ -52,7 +52,7 @@ fn prove_check(
     }
     let z = sizes_in(archive);
     if (mask_key.len() != 32)
-        | (elements.len() != z.n - 1)
+        | (auxiliary.len() != z.n - 1)
         | (seed.len() != 11)
         | (response.len() != z.n + 14)
     {
@@ -95,18 +95,18 @@ fn write_parts(
     combined: &[u8],
     key: [u8; 32],
     id: &[u8],
-    elements: &[u8],
+    auxiliary: &[u8],
     seed: &[u8],
     response: &mut [u8],
 )
-    requires { ⌜ (node < 8) × (3 ≤ n) × (n ≤ 1024) × (m ≤ 16) × (length (now combined) ≡ 1041) × (length (now id) ≡ 8) × (length (now elements) ≡ n - 1) × (length (now seed) ≡ 11) × (length (now response) ≡ responseLength n) ⌝ }
-    ensures { λ _. ⌜ now (response .exit) ≡ responseFor n (now (id .entry)) key (now (elements .entry)) (now (seed .entry)) node (at (now (combined .entry))) (at (now (combined .entry)) (n + m)) ⌝ }
+    requires { ⌜ (node < 8) × (3 ≤ n) × (n ≤ 1024) × (m ≤ 16) × (length (now combined) ≡ 1041) × (length (now id) ≡ 8) × (length (now auxiliary) ≡ n - 1) × (length (now seed) ≡ 11) × (length (now response) ≡ responseLength n) ⌝ }
+    ensures { λ _. ⌜ now (response .exit) ≡ responseFor n (now (id .entry)) key (now (auxiliary .entry)) (now (seed .entry)) node (at (now (combined .entry))) (at (now (combined .entry)) (n + m)) ⌝ }
 {
     response[0] = message::head_byte(node);
     lists::store(combined, 0, response, 1, n - 2);
     mask::add_mask(key, id, seed, n, response, 1);
     lists::store(seed, 0, response, n - 1, 11);
-    response[n + 10] = mask::mask_sum(key, seed, n, elements);
+    response[n + 10] = mask::mask_sum(key, seed, n, auxiliary);
     lists::store(combined, n - 2, response, n + 11, 2);
     response[n + 13] = combined[n + m];
 }
@@ -115,13 +115,13 @@ fn write_parts(
 fn write_response(
     archive: &[u8],
     mask_key: &[u8],
-    elements: &[u8],
+    auxiliary: &[u8],
     seed: &[u8],
     message: &[u8],
     response: &mut [u8],
 )
-    requires { ⌜ Passed (proveAnswer (now archive) (now «mask_key») (now elements) (now seed) (now message) (now response)) ⌝ }
-    ensures { λ _. ⌜ now (response .exit) ≡ provedFor (sizesOf (now (archive .entry))) (idOf (now (archive .entry))) (now (archive .entry)) (now («mask_key» .entry)) (now (elements .entry)) (now (seed .entry)) (challengeOf (now (message .entry))) ⌝ }
+    requires { ⌜ Passed (proveAnswer (now archive) (now «mask_key») (now auxiliary) (now seed) (now message) (now response)) ⌝ }
+    ensures { λ _. ⌜ now (response .exit) ≡ provedFor (sizesOf (now (archive .entry))) (idOf (now (archive .entry))) (now (archive .entry)) (now («mask_key» .entry)) (now (auxiliary .entry)) (now (seed .entry)) (challengeOf (now (message .entry))) ⌝ }
 {
     let pair = field::tables();
     let powers = pair.powers;
@@ -137,7 +137,7 @@ fn write_response(
         &combined,
         key,
         &archive[4..12],
-        elements,
+        auxiliary,
         seed,
         response,
     );
@@ -147,17 +147,17 @@ fn write_response(
 pub fn prove(
     archive: &[u8],
     mask_key: &[u8],
-    elements: &[u8],
+    auxiliary: &[u8],
     seed: &[u8],
     message: &[u8],
     response: &mut [u8],
 ) -> Outcome
-    ensures answer { λ r. ⌜ r ≡ proveAnswer (now (archive .entry)) (now («mask_key» .entry)) (now (elements .entry)) (now (seed .entry)) (now (message .entry)) (now (response .entry)) ⌝ }
-    ensures output { λ _. ⌜ now (response .exit) ≡ proveOut (now (archive .entry)) (now («mask_key» .entry)) (now (elements .entry)) (now (seed .entry)) (now (message .entry)) (now (response .entry)) ⌝ }
+    ensures answer { λ r. ⌜ r ≡ proveAnswer (now (archive .entry)) (now («mask_key» .entry)) (now (auxiliary .entry)) (now (seed .entry)) (now (message .entry)) (now (response .entry)) ⌝ }
+    ensures output { λ _. ⌜ now (response .exit) ≡ proveOut (now (archive .entry)) (now («mask_key» .entry)) (now (auxiliary .entry)) (now (seed .entry)) (now (message .entry)) (now (response .entry)) ⌝ }
 {
-    let answer = prove_check(archive, mask_key, elements, seed, message, response);
+    let answer = prove_check(archive, mask_key, auxiliary, seed, message, response);
     if let Outcome::Done = answer {
-        write_response(archive, mask_key, elements, seed, message, response);
+        write_response(archive, mask_key, auxiliary, seed, message, response);
     }
     answer
 }

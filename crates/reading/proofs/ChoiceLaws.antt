@@ -10,16 +10,16 @@ use Rattle.lists.specs.Lists.{at, over, howMany}
 use Rattle.lists.proofs.OverLaws.{over-below, over-within, over-above}
 use Rattle.sizes.specs.declared.Sizes.{Sizes}
 use Rattle.vector.specs.Vectors.{mixed}
-use Rattle.linear.specs.Elimination.{Matrix, Independent, Vanishing}
-use Rattle.linear.proofs.FactLaws.{last-combined}
-use Rattle.linear.proofs.SameLaws.{independent-same}
-use Rattle.linear.proofs.LastLaws.{last-apart}
+use Rattle.linear.specs.PrivateElimination.{Matrix, Independent, Vanishing}
+use Rattle.linear.proofs.RankLaws.{last-combined}
+use Rattle.linear.proofs.AlikeLaws.{independent-same}
+use Rattle.linear.proofs.LastRowLaws.{last-apart}
 use Rattle.archive.specs.Layout.{markAt, byteIn}
 use Rattle.archive.specs.Read.{rowIn, Combined}
 use Rattle.lists.proofs.CountLaws.{howMany-same, howMany-more, howMany-zero, howMany-less}
 use Rattle.archive.proofs.ReadLaws.{combined-same}
 use Rattle.reading.specs.declared.Chosen.{Chosen}
-use Rattle.reading.specs.Choice.{Choice}
+use Rattle.reading.specs.PrivateChoice.{Choice}
 use Rattle.reading.proofs.GatherLaws.{gather, combined-listed}
 
 -- what holds below k and at k holds below k + 1

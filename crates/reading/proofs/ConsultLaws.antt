@@ -10,13 +10,13 @@ use Rattle.lists.specs.Lists.{at}
 use Rattle.sizes.specs.declared.Sizes.{Sizes}
 use Rattle.sizes.specs.Sizes.{sizesOutside}
 use Rattle.sizes.proofs.SizeLaws.{ranged}
-use Rattle.linear.specs.Elimination.{Matrix, Reduces}
-use Rattle.linear.proofs.SameLaws.{reduces-same}
+use Rattle.linear.specs.PrivateElimination.{Matrix, Reduces}
+use Rattle.linear.proofs.AlikeLaws.{reduces-same}
 use Rattle.sizes.specs.Lengths.{placeCount}
 use Rattle.archive.specs.Layout.{markAt}
 use Rattle.reading.specs.declared.Chosen.{Chosen}
-use Rattle.reading.specs.Choice.{Choice}
-use Rattle.reading.proofs.RowLaws.{place-low}
+use Rattle.reading.specs.PrivateChoice.{Choice}
+use Rattle.reading.proofs.PlaceRowLaws.{place-low}
 use Rattle.reading.proofs.ChoiceLaws.{rowsOf, all-below, choice-drop, choice-take}
 
 module _ (z : Sizes) (s : List ℕ) (k : ℕ) (c : Chosen) (sizes : sizesOutside z ≡ false) (there : k < placeCount z) (fits : c .count < z .m)

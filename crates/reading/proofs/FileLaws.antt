@@ -16,14 +16,14 @@ use Rattle.sizes.specs.declared.Sizes.{Sizes}
 use Rattle.vector.specs.Vectors.{product, mixed}
 use Rattle.sizes.proofs.SizeLaws.{Ranged}
 use Rattle.vector.proofs.VectorLaws.{mixed-lt, product-keys}
-use Rattle.linear.specs.Elimination.{Matrix, Reduces}
+use Rattle.linear.specs.PrivateElimination.{Matrix, Reduces}
 use Rattle.archive.specs.Layout.{sizesOf, byteIn, badArchive}
 use Rattle.sizes.specs.Lengths.{fileLength}
 use Rattle.archive.specs.Read.{rowIn, Solved, readBefore, ReadFor, ReadAllows}
 use Rattle.answer.specs.declared.Counted.the-variants.{Count, Refused}
 use Rattle.archive.proofs.CallLaws.{read-sizes}
 use Rattle.reading.specs.declared.Chosen.{Chosen}
-use Rattle.reading.specs.Choice.{Complete}
+use Rattle.reading.specs.PrivateChoice.{WholeChoice}
 use Rattle.reading.proofs.ChoiceLaws.{rowsOf}
 use Rattle.reading.proofs.ReadingLaws.{taken-listed, listed-low, count-full, takes-all, unreadable, readable, enough}
 
@@ -33,7 +33,7 @@ flat-every P n m f pos h i l =
     subst (λ (x : ℕ). P (at (flat n m f) x)) (div-add-mod' i m)
     (subst P (sym (flat-at n m f (i / m) (i % m) (div-lt-iff-lt-mul {k = m} pos .1 l) (mod-lt i pos))) (h (i / m) (i % m)))
 
-module _ (z : Sizes) (s : List ℕ) (c : Chosen) (chosen : Complete z s c) (t : Matrix) (rank : ℕ)
+module _ (z : Sizes) (s : List ℕ) (c : Chosen) (chosen : WholeChoice z s c) (t : Matrix) (rank : ℕ)
     (reduced : Reduces (c .count) (z .m) (rowsOf z s c) t rank) where
   -- block i without its padding
   abbrev block : ℕ → ℕ → ℕ

@@ -1,6 +1,6 @@
 pub mod GatherLaws
 pub mod ChoiceLaws
-pub mod RowLaws
+pub mod PlaceRowLaws
 pub mod ConsultLaws
 pub mod SolvingLaws
 pub mod ReadingLaws

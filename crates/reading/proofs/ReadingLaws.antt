@@ -10,14 +10,14 @@ use Rattle.lists.specs.Lists.{at, bit, howMany}
 use Rattle.lists.proofs.TabLaws.{order}
 use Rattle.sizes.specs.declared.Sizes.{Sizes}
 use Rattle.vector.specs.Vectors.{product, mixed}
-use Rattle.linear.specs.Elimination.{Matrix, Orthogonal, Reduces}
-use Rattle.linear.proofs.SameLaws.{spans}
+use Rattle.linear.specs.PrivateElimination.{Matrix, Orthogonal, Reduces}
+use Rattle.linear.proofs.AlikeLaws.{spans}
 use Rattle.sizes.specs.Lengths.{placeCount}
 use Rattle.archive.specs.Layout.{markAt, byteIn}
 use Rattle.archive.specs.Read.{rowIn, Blind, Combined, Takes, among, Enough}
 use Rattle.archive.proofs.ReadLaws.{filled-zero}
 use Rattle.reading.specs.declared.Chosen.{Chosen}
-use Rattle.reading.specs.Choice.{Choice, Complete}
+use Rattle.reading.specs.PrivateChoice.{Choice, WholeChoice}
 use Rattle.lists.proofs.CountLaws.{howMany-mono, howMany-less, howMany-stop}
 use Rattle.reading.proofs.GatherLaws.{combined-listed}
 use Rattle.reading.proofs.ChoiceLaws.{rowsOf}
@@ -50,7 +50,7 @@ howMany-within (suc n) p q h = go (p n) refl (howMany-within n p q (λ j l. h j 
 
 -- ---- the choice
 
-module _ (z : Sizes) (s : List ℕ) (c : Chosen) (chosen : Complete z s c) where
+module _ (z : Sizes) (s : List ℕ) (c : Chosen) (chosen : WholeChoice z s c) where
   abbrev choice : Choice z s (chosen .end) c
   choice = chosen .choice
 

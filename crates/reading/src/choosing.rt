@@ -5,12 +5,12 @@ ghost use Prim.Native.Nat.{ℕ, _+_, _<_, _≤_};
 ghost use lib.ListN.{length};
 ghost use Rattle.lists.specs.Lists.{at};
 ghost use Rattle.sizes.specs.Sizes.{sizesOutside};
-ghost use Rattle.linear.specs.Rows.{kept};
-ghost use Rattle.linear.specs.Elimination.{cells};
+ghost use Rattle.linear.specs.PrivateRows.{kept};
+ghost use Rattle.linear.specs.PrivateElimination.{cells};
 ghost use Rattle.sizes.specs.Lengths.{placeCount, archiveLength};
 ghost use Rattle.archive.specs.Layout.{sizesOf, badArchive};
 ghost use Rattle.archive.specs.Read.{rowIn};
-ghost use Rattle.reading.specs.Choice.{Choice, Complete};
+ghost use Rattle.reading.specs.PrivateChoice.{Choice, WholeChoice};
 use crate::Chosen;
 use linear::Row;
 use sizes::Sizes;
@@ -69,7 +69,7 @@ fn consult(archive: &[u8], z: Sizes, c: Chosen, k: usize) -> Chosen
 // The places taken, up to the m-th.
 pub fn choose(archive: &[u8], z: Sizes) -> Chosen
     requires { ⌜ (badArchive (now archive) ≡ false) × (z ≡ sizesOf (now archive)) ⌝ }
-    ensures { λ r. ⌜ Complete z (now (archive .entry)) r ⌝ }
+    ensures { λ r. ⌜ WholeChoice z (now (archive .entry)) r ⌝ }
 {
     let mut c = Chosen {
         count: 0,

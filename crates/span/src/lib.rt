@@ -16,7 +16,7 @@ ghost use Rattle.archive.specs.Open.{openAnswer, openOut};
 ghost use Rattle.archive.specs.Calls as Calls;
 ghost use Rattle.archive.specs.Calls.{archiveAnswer, archiveAfter, scratchAfter};
 ghost use Rattle.archive.specs.Prove.{proveAnswer, proveOut};
-ghost use Rattle.answer.specs.Counted.{countedNumber, countedValue, Told};
+ghost use Rattle.answer.specs.Counted.{countedNumber, countedValue, CountedAnswer};
 ghost use Rattle.archive.specs.Inventory.{InventoryAllows};
 ghost use Rattle.archive.specs.Read.{ReadAllows};
 use answer::Counted;
@@ -204,14 +204,14 @@ fn tell(answer: Counted, value: &mut u8) -> u8
 
 #[no_mangle]
 pub extern "C" fn span_inventory(archive: &[u8], list: &mut [u8], count: &mut u8) -> u8
-    ensures { λ r. ⌜ Told (λ answer. InventoryAllows (now (archive .entry)) (now (list .entry)) answer (now (list .exit))) r (now (count .entry)) (now (count .exit)) ⌝ }
+    ensures { λ r. ⌜ CountedAnswer (λ answer. InventoryAllows (now (archive .entry)) (now (list .entry)) answer (now (list .exit))) r (now (count .entry)) (now (count .exit)) ⌝ }
 {
     tell(archive::inventory(archive, list), count)
 }
 
 #[no_mangle]
 pub extern "C" fn span_read(archive: &[u8], file: &mut [u8], consulted: &mut u8) -> u8
-    ensures { λ r. ⌜ Told (λ answer. ReadAllows (now (archive .entry)) (now (file .entry)) answer (now (file .exit))) r (now (consulted .entry)) (now (consulted .exit)) ⌝ }
+    ensures { λ r. ⌜ CountedAnswer (λ answer. ReadAllows (now (archive .entry)) (now (file .entry)) answer (now (file .exit))) r (now (consulted .entry)) (now (consulted .exit)) ⌝ }
 {
     tell(reading::read(archive, file), consulted)
 }

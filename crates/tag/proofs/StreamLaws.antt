@@ -7,7 +7,7 @@ use Rattle.lists.specs.Lists.{tab}
 use Rattle.lists.proofs.TabLaws.{tab-same}
 use Rattle.keystream.specs.declared.stream.Stream.{Stream}
 use Rattle.keystream.specs.declared.stream.Drawn.{Drawn}
-use Rattle.keystream.specs.Draws.{fresh, drawn, after}
+use Rattle.keystream.specs.PrivateStream.{fresh, drawn, after}
 use Rattle.keystream.proofs.DrawLaws.{draws-in-order, draw-at}
 use Rattle.tag.specs.KeyVector.{F1, keyVector}
 

@@ -10,7 +10,7 @@ use Rattle.answer.specs.declared.Outcome.the-variants.{Done, Refused}
 use Rattle.answer.specs.declared.Refusal.{Refusal}
 use Rattle.answer.proofs.RefusalLaws.{accepted, same, after-done, after-refused}
 use Rattle.keystream.specs.declared.stream.Stream.{Stream}
-use Rattle.keystream.specs.Draws.{fresh, drawn, after}
+use Rattle.keystream.specs.PrivateStream.{fresh, drawn, after}
 use Rattle.tag.specs.Vector.{vectorAnswer, vectorOut}
 use Rattle.tag.specs.KeyVector.{keyVector}
 use Rattle.tag.proofs.StreamLaws.{vector-drawn}

@@ -4,8 +4,8 @@ ghost use mathlib.Core.List.{_∷_};
 ghost use Prim.Native.Nat.{_+_, _≤_};
 ghost use lib.ListN.{length};
 ghost use Rattle.lists.specs.Lists.{at, tab};
-ghost use Rattle.field.specs.Tables.{PowerTable, LogTable};
-ghost use Rattle.keystream.specs.Draws.{drawn, after};
+ghost use Rattle.field.specs.PrivateTables.{PowerTable, LogTable};
+ghost use Rattle.keystream.specs.PrivateStream.{drawn, after};
 ghost use Rattle.vector.specs.Vectors.{product};
 ghost use Rattle.tag.specs.KeyVector.{TagsCombine};
 ghost use Rattle.tag.specs.Vector.{vectorAnswer, vectorOut};
@@ -83,26 +83,29 @@ pub fn draw_into(s: Stream, out: &mut [u8])
 }
 
 // The first refusal of Vector.
-fn vector_check(key: &[u8], id: &[u8], n: usize, m: usize, out: &[u8]) -> Outcome
-    ensures { λ r. ⌜ r ≡ vectorAnswer (now (key .entry)) (now (id .entry)) n m (now (out .entry)) ⌝ }
+fn vector_check(tag_key: &[u8], id: &[u8], n: usize, m: usize, out: &[u8]) -> Outcome
+    ensures { λ r. ⌜ r ≡ vectorAnswer (now («tag_key» .entry)) (now (id .entry)) n m (now (out .entry)) ⌝ }
 {
     if answer::outside(3, 1024, n) | answer::outside(1, 16, m) {
         return Outcome::Refused(Refusal::Size);
     }
-    if (key.len() != 32) | (id.len() != 8) | (out.len() != n + m) {
+    if (tag_key.len() != 32) | (id.len() != 8) | (out.len() != n + m) {
         return Outcome::Refused(Refusal::Length);
     }
     Outcome::Done
 }
 
 // The key vector of n + m elements.
-pub fn vector(key: &[u8], id: &[u8], n: usize, m: usize, out: &mut [u8]) -> Outcome
-    ensures answer { λ r. ⌜ r ≡ vectorAnswer (now (key .entry)) (now (id .entry)) n m (now (out .entry)) ⌝ }
-    ensures output { λ _. ⌜ now (out .exit) ≡ vectorOut (now (key .entry)) (now (id .entry)) n m (now (out .entry)) ⌝ }
+pub fn vector(tag_key: &[u8], id: &[u8], n: usize, m: usize, out: &mut [u8]) -> Outcome
+    ensures answer { λ r. ⌜ r ≡ vectorAnswer (now («tag_key» .entry)) (now (id .entry)) n m (now (out .entry)) ⌝ }
+    ensures output { λ _. ⌜ now (out .exit) ≡ vectorOut (now («tag_key» .entry)) (now (id .entry)) n m (now (out .entry)) ⌝ }
 {
-    let answer = vector_check(key, id, n, m, out);
+    let answer = vector_check(tag_key, id, n, m, out);
     if let Outcome::Done = answer {
-        draw_into(Stream::new(key_array(key), id_nonce(1, 0, 0, 0, id)), out);
+        draw_into(
+            Stream::new(key_array(tag_key), id_nonce(1, 0, 0, 0, id)),
+            out,
+        );
     }
     answer
 }

@@ -3,10 +3,10 @@ use Prim.Native.Nat.{ℕ, _≤_, _-_}
 use native.Mathlib.Omega.{arith}
 use borrow.Author.Needs.{needs}
 use borrow.Author.Count.{below-more}
-use Rattle.linear.specs.Elimination.{cells}
+use Rattle.linear.specs.PrivateElimination.{cells}
 use Rattle.linear.proofs.ArrayLaws.{cell-bytes}
-use Rattle.linear.proofs.RowLaws.{Clearing, clear-start, clear-by, clear-skip, clear-store, clear-end}
-use Rattle.linear.proofs.StepLaws.{Head, Passed, head-start, head-at, head-skip, head-step, head-end}
+use Rattle.linear.proofs.RowStoreLaws.{Clearing, clear-start, clear-by, clear-skip, clear-store, clear-end}
+use Rattle.linear.proofs.ColumnLaws.{Head, Passed, head-start, head-at, head-skip, head-step, head-end}
 use Rattle.linear.proofs.eliminated.Statement.{statement}
 use Rattle.linear.proofs.eliminated.Tie as tie
 

@@ -1,4 +1,4 @@
-use Rattle.linear.proofs.FactLaws.{last-combined}
+use Rattle.linear.proofs.RankLaws.{last-combined}
 use Rattle.linear.proofs.last_is_combined.Statement.{statement}
 use Rattle.linear.proofs.last_is_combined.Tie as tie
 

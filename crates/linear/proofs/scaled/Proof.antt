@@ -5,7 +5,7 @@ use lib.Bits.{xor-zero-l}
 use lib.ListN.{replicate, getD-replicate}
 use Rattle.lists.specs.Lists.{at}
 use Rattle.field.specs.Field.{plus}
-use Rattle.linear.proofs.RowLaws.{scales}
+use Rattle.linear.proofs.RowStoreLaws.{scales}
 use Rattle.linear.proofs.scaled.Statement.{statement}
 use Rattle.linear.proofs.scaled.Tie as tie
 

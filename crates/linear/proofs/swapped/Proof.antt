@@ -1,5 +1,5 @@
 use borrow.Author.Needs.{needs}
-use Rattle.linear.proofs.RowLaws.{swaps}
+use Rattle.linear.proofs.RowStoreLaws.{swaps}
 use Rattle.linear.proofs.swapped.Statement.{statement}
 use Rattle.linear.proofs.swapped.Tie as tie
 

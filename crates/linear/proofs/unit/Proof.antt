@@ -5,7 +5,7 @@ use native.Mathlib.Omega.{arith}
 use lib.ListN.{length, getD, set, length-set, replicate, getD-replicate}
 use Rattle.lists.specs.Lists.{at}
 use Rattle.linear.proofs.ArrayLaws.{stored, stored-kept}
-use Rattle.linear.proofs.RowLaws.{units}
+use Rattle.linear.proofs.RowStoreLaws.{units}
 use Rattle.linear.proofs.unit.Statement.{statement}
 use Rattle.linear.proofs.unit.Tie as tie
 

@@ -4,7 +4,8 @@ use mathlib.Core.Path.{_≡_, _∙_}
 use native.Mathlib.Omega.{arith}
 use Rattle.field.specs.Field.{sum}
 use Rattle.field.proofs.SumLaws.{sum-none, sum-more, sum-all}
-use Rattle.keystream.specs.Draws.{byteAt, fresh, after}
+use Rattle.keystream.specs.Draws.{byteAt}
+use Rattle.keystream.specs.PrivateStream.{fresh, after}
 use Rattle.keystream.proofs.DrawLaws.{after-none, draw-at}
 use Rattle.loops.proofs.loops_draw.Statement.{statement}
 use Rattle.loops.proofs.loops_draw.Tie as tie

@@ -6,7 +6,7 @@ use mathlib.Core.List.{_∷_}
 use native.Mathlib.Omega.{arith}
 use Rattle.lists.proofs.AnyLaws.{any-some, any-none}
 use Rattle.answer.proofs.RefusalLaws.{differs-same, differs-other}
-use Rattle.keystream.specs.Draws.{fresh, after}
+use Rattle.keystream.specs.PrivateStream.{fresh, after}
 use Rattle.keystream.proofs.DrawLaws.{after-none}
 use Rattle.tag.specs.KeyVector.{keyVector}
 use Rattle.tag.proofs.StreamLaws.{key-drawn}

@@ -8,9 +8,9 @@ use lib.ListN.{length}
 use Rattle.lists.specs.Lists.{at}
 use Rattle.lists.proofs.AnyLaws.{any-some, any-none}
 use Rattle.message.specs.Challenge.{challengeOf}
-use Rattle.message.proofs.ReadLaws.{readable}
+use Rattle.message.proofs.ChallengeReadLaws.{readable}
 use Rattle.archive.specs.Layout.{sizesOf, markAt, filledIn}
-use Rattle.archive.proofs.GoodLaws.{good-length}
+use Rattle.archive.proofs.GoodArchiveLaws.{good-length}
 use Rattle.proving.proofs.ProveLaws.{first-low, number-is, number-fits}
 use Rattle.proving.proofs.any_named_empty.Statement.{statement}
 use Rattle.proving.proofs.any_named_empty.Tie as tie

@@ -1,7 +1,7 @@
 use borrow.Author.Needs.{needs}
 use native.Mathlib.Omega.{arith}
 use Rattle.sizes.proofs.SizeLaws.{not-sizes-outside}
-use Rattle.archive.proofs.GoodLaws.{good-length}
+use Rattle.archive.proofs.GoodArchiveLaws.{good-length}
 use Rattle.archive.proofs.CallLaws.{read-sizes}
 use Rattle.proving.proofs.ProveLaws.{first-low, records-there, records-named}
 use Rattle.proving.proofs.named_record.Statement.{statement}

@@ -1,7 +1,7 @@
 use borrow.Author.Needs.{needs}
 use mathlib.Core.Path.{sym, _∙_}
 use native.Mathlib.Omega.{arith}
-use Rattle.archive.proofs.GoodLaws.{good-length}
+use Rattle.archive.proofs.GoodArchiveLaws.{good-length}
 use Rattle.archive.proofs.CallLaws.{read-sizes}
 use Rattle.proving.proofs.ProveLaws.{there-read, refused-bad, refused-malformed, refused-length, refused-absent, refused-empty, not-refused}
 use Rattle.proving.proofs.prove_check.Statement.{statement}

@@ -108,7 +108,7 @@ returns c =
     let a = b .args in
     response-written (a .n) (a .combined .now) (a .key) (a .id .now) (a .seed .now) (a .response .now) (head .head-byte .result) (b .pre .8)
     (filled .store .ensures) (masked .add-mask .ensures) (seeded .store2 .ensures) (summed .mask-sum .result) (cleared .store3 .ensures) (a .m) (b .pre .1)
-    (a .node) (a .elements .now) (b .pre .7) (head .head-byte .ensures) (summed .mask-sum .ensures)
+    (a .node) (a .auxiliary .now) (b .pre .7) (head .head-byte .ensures) (summed .mask-sum .ensures)
 
 pub write-parts-spec : {M : Type 1} → statement M
 write-parts-spec =

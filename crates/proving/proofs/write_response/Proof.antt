@@ -2,7 +2,7 @@ use borrow.Author.Needs.{needs}
 use mathlib.Core.Path.{_≡_, ap}
 use native.Mathlib.Omega.{arith}
 use Rattle.sizes.specs.declared.Sizes.{Sizes}
-use Rattle.archive.proofs.GoodLaws.{good-length}
+use Rattle.archive.proofs.GoodArchiveLaws.{good-length}
 use Rattle.archive.proofs.CallLaws.{read-sizes}
 use Rattle.archive.proofs.ProveCheckLaws.{provable, id-part, id-read, proved-is}
 use Rattle.proving.proofs.write_response.Statement.{statement}

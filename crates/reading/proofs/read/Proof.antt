@@ -4,7 +4,7 @@ use mathlib.Core.Logic.{inl}
 use native.Mathlib.Omega.{arith}
 use Rattle.answer.proofs.RefusalLaws.{refused, passed, differs-other}
 use Rattle.sizes.specs.Lengths.{fileLength}
-use Rattle.archive.proofs.GoodLaws.{good-length}
+use Rattle.archive.proofs.GoodArchiveLaws.{good-length}
 use Rattle.archive.proofs.CallLaws.{read-sizes}
 use Rattle.reading.proofs.SolvingLaws.{file-low}
 use Rattle.reading.proofs.read.Statement.{statement}

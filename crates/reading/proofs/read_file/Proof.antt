@@ -3,9 +3,9 @@ use mathlib.Core.Path.{sym, ap, _∙_}
 use native.Mathlib.Omega.{arith}
 use Rattle.sizes.proofs.SizeLaws.{not-sizes-outside}
 use Rattle.sizes.specs.Lengths.{fileLength}
-use Rattle.archive.proofs.GoodLaws.{good-length}
+use Rattle.archive.proofs.GoodArchiveLaws.{good-length}
 use Rattle.archive.proofs.CallLaws.{read-sizes, read-length}
-use Rattle.linear.proofs.SameLaws.{reduces-same}
+use Rattle.linear.proofs.AlikeLaws.{reduces-same}
 use Rattle.reading.proofs.FileLaws.{refuses, reads}
 use Rattle.reading.proofs.read_file.Statement.{statement}
 use Rattle.reading.proofs.read_file.Tie as tie

@@ -6,7 +6,7 @@ use native.Mathlib.Omega.{arith}
 use lib.ListN.{length, take, length-set}
 use Rattle.lists.specs.Lists.{tab}
 use Rattle.lists.proofs.TabLaws.{tab-none, tab-more, tab-all}
-use Rattle.keystream.specs.Draws.{drawn, after}
+use Rattle.keystream.specs.PrivateStream.{drawn, after}
 use Rattle.keystream.proofs.DrawLaws.{after-none, after-more}
 use Rattle.tag.proofs.draw_into.Statement.{statement}
 use Rattle.tag.proofs.draw_into.Tie as tie

@@ -5,7 +5,7 @@ use native.Mathlib.Omega.{arith}
 use Rattle.lists.specs.Lists.{at}
 use Rattle.field.specs.Field.{times}
 use Rattle.field.proofs.SumLaws.{sum-none, sum-more, sum-all}
-use Rattle.keystream.specs.Draws.{drawn, after}
+use Rattle.keystream.specs.PrivateStream.{drawn, after}
 use Rattle.vector.specs.Vectors.{product}
 use Rattle.keystream.proofs.DrawLaws.{after-none, after-more}
 use Rattle.tag.proofs.product_drawn.Statement.{statement}

@@ -5,7 +5,7 @@ use mathlib.Core.Path.{_≡_, sym}
 use mathlib.Core.Bool.{false}
 use native.Mathlib.Omega.{arith}
 use Rattle.lists.proofs.AnyLaws.{none-more, any-some, any-none}
-use Rattle.archive.proofs.BadLaws.{spareMark, spare-tested}
+use Rattle.archive.proofs.BadArchiveLaws.{spareMark, spare-tested}
 use Rattle.archive.proofs.layout.any_spare_mark.Statement.{statement}
 use Rattle.archive.proofs.layout.any_spare_mark.Tie as tie
 

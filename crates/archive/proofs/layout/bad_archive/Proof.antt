@@ -3,7 +3,7 @@ use mathlib.Core.Path.{sym}
 use native.Mathlib.Omega.{arith}
 use Rattle.sizes.proofs.SizeLaws.{ranged}
 use Rattle.sizes.proofs.PlaceLaws.{count-low}
-use Rattle.archive.proofs.BadLaws.{too-short, header-bad, sizes-good, length-bad, only-marks}
+use Rattle.archive.proofs.BadArchiveLaws.{too-short, header-bad, sizes-good, length-bad, only-marks}
 use Rattle.archive.proofs.layout.bad_archive.Statement.{statement}
 use Rattle.archive.proofs.layout.bad_archive.Tie as tie
 

@@ -3,7 +3,7 @@ use mathlib.Core.Path.{refl, sym, _∙_}
 use native.Mathlib.Omega.{arith}
 use Rattle.answer.proofs.RefusalLaws.{refused, passed, differs-same, differs-other}
 use Rattle.sizes.proofs.PlaceLaws.{count-low}
-use Rattle.archive.proofs.GoodLaws.{good-sizes, good-length}
+use Rattle.archive.proofs.GoodArchiveLaws.{good-sizes, good-length}
 use Rattle.archive.proofs.ListingLaws.{count-read}
 use Rattle.archive.proofs.listing.inventory.Statement.{statement}
 use Rattle.archive.proofs.listing.inventory.Tie as tie

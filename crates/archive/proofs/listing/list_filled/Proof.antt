@@ -8,7 +8,7 @@ use Rattle.sizes.specs.declared.Sizes.{Sizes}
 use Rattle.sizes.specs.Lengths.{placeCount}
 use Rattle.archive.specs.Layout.{sizesOf}
 use Rattle.sizes.proofs.PlaceLaws.{count-low}
-use Rattle.archive.proofs.GoodLaws.{good-sizes, good-length}
+use Rattle.archive.proofs.GoodArchiveLaws.{good-sizes, good-length}
 use Rattle.archive.proofs.ListingLaws.{Listing, count-read, few, parts-low, listing-none, listing-skip, listing-take, listing-all}
 use Rattle.archive.proofs.listing.list_filled.Statement.{statement}
 use Rattle.archive.proofs.listing.list_filled.Tie as tie

@@ -1,7 +1,7 @@
 use borrow.Author.Needs.{needs}
 use mathlib.Core.Path.{sym, _∙_}
 use native.Mathlib.Omega.{arith}
-use Rattle.archive.proofs.GoodLaws.{good-length}
+use Rattle.archive.proofs.GoodArchiveLaws.{good-length}
 use Rattle.archive.proofs.LoseLaws.{lose-bad, lose-nowhere, lose-there}
 use Rattle.archive.proofs.losing.lose_check.Statement.{statement}
 use Rattle.archive.proofs.losing.lose_check.Tie as tie

@@ -63,7 +63,7 @@ returns-4 c =
 shared-slice-read-if5 : tie.Need-shared-slice-read-if5
 shared-slice-read-if5 c =
     let a = c .before .before .before .before .before .before .before .before .before .before .before .before .before .before .before .args in
-    let others = (differs (length (a .key .now)) 32 || differs (length (a .id .now)) 8) || differs (length (a .rows .now)) (a .z .places * a .z .m) in
+    let others = (differs (length (a .tag-key .now)) 32 || differs (length (a .id .now)) 8) || differs (length (a .rows .now)) (a .z .places * a .z .m) in
     omega (arith, same (length (a .response .now)) (a .z .n + 14) (or-false others _ (c .before .before .before .if3 .left) .1))
 
 node-in-requires : tie.Need-node-in-requires

@@ -5,7 +5,7 @@ use Rattle.lists.proofs.AnyLaws.{any-two, any-four}
 use Rattle.answer.proofs.RefusalLaws.{refused, passed}
 use Rattle.archive.specs.Calls.{answerFor, archiveAnswer}
 use Rattle.sizes.proofs.PlaceLaws.{count-low}
-use Rattle.archive.proofs.GoodLaws.{good-length}
+use Rattle.archive.proofs.GoodArchiveLaws.{good-length}
 use Rattle.archive.proofs.CallLaws.{read-sizes, read-length, answered}
 use Rattle.coding.proofs.EncodeLaws.{file-low, place-in}
 use Rattle.coding.proofs.encoding.encode_check.Statement.{statement}

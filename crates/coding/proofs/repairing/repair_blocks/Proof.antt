@@ -8,7 +8,7 @@ use Rattle.lists.proofs.PutLaws.{grid-none}
 use Rattle.sizes.proofs.SizeLaws.{not-sizes-outside}
 use Rattle.vector.proofs.AddedLaws.{row-made}
 use Rattle.archive.specs.Repair.{repairByte}
-use Rattle.archive.proofs.GoodLaws.{good-length}
+use Rattle.archive.proofs.GoodArchiveLaws.{good-length}
 use Rattle.archive.proofs.CallLaws.{read-sizes}
 use Rattle.coding.proofs.RepairLaws.{Blocks, blocks-low, blocks-known, helper-in, turn, block-made, blocks-made}
 use Rattle.coding.proofs.repairing.repair_blocks.Statement.{statement}

@@ -8,7 +8,7 @@ use Rattle.lists.proofs.AnyLaws.{or-false}
 use Rattle.answer.proofs.RefusalLaws.{refused}
 use Rattle.sizes.proofs.SizeLaws.{not-sizes-outside}
 use Rattle.archive.specs.Calls.{archiveAnswer}
-use Rattle.archive.proofs.GoodLaws.{good-length}
+use Rattle.archive.proofs.GoodArchiveLaws.{good-length}
 use Rattle.archive.proofs.CallLaws.{read-sizes, read-length, answered}
 use Rattle.coding.proofs.RepairLaws.{blocks-low, counts, refused-size, refused-length, refused-place, refused-filled, refused-empty, not-refused}
 use Rattle.coding.proofs.repairing.repair_check.Statement.{statement}

@@ -1,5 +1,5 @@
 use borrow.Author.Needs.{needs}
-use Rattle.lists.proofs.Tests.{all}
+use Rattle.lists.proofs.AllLaws.{all}
 use Rattle.field.specs.Field.{sum, modulus, xtime, xtimes, times}
 use Rattle.field.proofs.TableLaws.{pass, tables-pass}
 use Rattle.field.proofs.constants.tables.Statement.{statement}

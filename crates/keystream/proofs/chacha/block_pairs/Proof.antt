@@ -5,7 +5,7 @@ use native.Mathlib.Omega.{arith}
 use lib.ListN.{length, take, length-set}
 use Rattle.lists.specs.Lists.{at, tab}
 use Rattle.lists.proofs.TabLaws.{tab-none, tab-more, tab-all}
-use Rattle.keystream.specs.Draws.{pairsOf}
+use Rattle.keystream.specs.PrivateStream.{pairsOf}
 use borrow.Author.Needs.{needs}
 use Rattle.keystream.proofs.chacha.block_pairs.Statement.{statement}
 use Rattle.keystream.proofs.chacha.block_pairs.Tie as tie

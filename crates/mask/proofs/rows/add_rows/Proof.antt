@@ -5,7 +5,7 @@ use native.Mathlib.Omega.{arith}
 use lib.ListN.{length}
 use Rattle.lists.specs.Lists.{at}
 use Rattle.field.specs.Field.{times}
-use Rattle.keystream.specs.Draws.{drawn, after}
+use Rattle.keystream.specs.PrivateStream.{drawn, after}
 use Rattle.keystream.proofs.DrawLaws.{after-none, after-more}
 use Rattle.vector.specs.Vectors.{mixed, added}
 use Rattle.vector.proofs.AddedLaws.{mixed-none, mixed-more}

@@ -1,6 +1,6 @@
 use borrow.Author.Needs.{needs}
 use native.Mathlib.Omega.{arith}
-use Rattle.mask.proofs.RowLaws.{row-filled}
+use Rattle.mask.proofs.MaskRowLaws.{row-filled}
 use Rattle.mask.proofs.rows.mask_row.Statement.{statement}
 use Rattle.mask.proofs.rows.mask_row.Tie as tie
 

@@ -6,7 +6,7 @@ use lib.ListN.{length}
 use Rattle.vector.specs.Vectors.{added}
 use Rattle.vector.proofs.AddedLaws.{mixed-none}
 use Rattle.message.specs.Challenge.{challengeOf}
-use Rattle.message.proofs.ReadLaws.{readable}
+use Rattle.message.proofs.ChallengeReadLaws.{readable}
 use Rattle.message.proofs.NamedLaws.{firstNamed, item-there, item-more}
 use Rattle.message.proofs.asking.add_named.Statement.{statement}
 use Rattle.message.proofs.asking.add_named.Tie as tie

@@ -4,7 +4,7 @@ use mathlib.Core.Path.{_≡_, refl, sym}
 use native.Mathlib.Omega.{arith}
 use lib.ListN.{length}
 use Rattle.lists.specs.Lists.{at}
-use Rattle.message.proofs.RuleLaws.{Rising, fall-found, rising-more, rising-all}
+use Rattle.message.proofs.ChallengeRuleLaws.{Rising, fall-found, rising-more, rising-all}
 use Rattle.message.proofs.asking.any_fall.Statement.{statement}
 use Rattle.message.proofs.asking.any_fall.Tie as tie
 

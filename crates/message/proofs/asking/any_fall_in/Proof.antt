@@ -2,7 +2,7 @@ use borrow.Author.Needs.{needs}
 use Prim.Native.Nat.{_≤_, _-_}
 use mathlib.Core.Path.{sym}
 use native.Mathlib.Omega.{arith}
-use Rattle.message.proofs.RuleLaws.{placeIn, Rising, fall-found, rising-more, rising-all}
+use Rattle.message.proofs.ChallengeRuleLaws.{placeIn, Rising, fall-found, rising-more, rising-all}
 use Rattle.message.proofs.asking.any_fall_in.Statement.{statement}
 use Rattle.message.proofs.asking.any_fall_in.Tie as tie
 

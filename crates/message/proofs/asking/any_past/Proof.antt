@@ -10,7 +10,7 @@ use lib.ListN.{length}
 use Rattle.lists.specs.Lists.{at}
 use Rattle.lists.proofs.AnyLaws.{any-some, any-none}
 use Rattle.message.specs.Challenge.{challengeOf}
-use Rattle.message.proofs.ReadLaws.{readable}
+use Rattle.message.proofs.ChallengeReadLaws.{readable}
 use Rattle.message.proofs.asking.any_past.Statement.{statement}
 use Rattle.message.proofs.asking.any_past.Tie as tie
 

@@ -1,5 +1,5 @@
 use borrow.Author.Needs.{needs}
-use Rattle.message.proofs.MessageLaws.{challenge-lengths, challenge-written, challenge-kept}
+use Rattle.message.proofs.ChallengeWriteLaws.{challenge-lengths, challenge-written, challenge-kept}
 use Rattle.message.proofs.asking.challenge.Statement.{statement}
 use Rattle.message.proofs.asking.challenge.Tie as tie
 

@@ -1,6 +1,6 @@
 use mathlib.Core.Path.{sym, _∙_}
 use native.Mathlib.Omega.{arith}
-use Rattle.message.proofs.ReadLaws.{readable}
+use Rattle.message.proofs.ChallengeReadLaws.{readable}
 use Rattle.message.proofs.asking.count_in.Statement.{statement}
 use Rattle.message.proofs.asking.count_in.Tie as tie
 

@@ -1,6 +1,6 @@
 use borrow.Author.Needs.{needs}
 use mathlib.Core.Path.{refl, sym, _∙_}
-use Rattle.message.proofs.RuleLaws.{too-short, kind-other, node-other, no-item, many-items, length-other, items-fall, only-spare}
+use Rattle.message.proofs.ChallengeRuleLaws.{too-short, kind-other, node-other, no-item, many-items, length-other, items-fall, only-spare}
 use Rattle.message.proofs.asking.malformed.Statement.{statement}
 use Rattle.message.proofs.asking.malformed.Tie as tie
 

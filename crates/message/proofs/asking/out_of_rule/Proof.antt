@@ -1,6 +1,6 @@
 use borrow.Author.Needs.{needs}
 use mathlib.Core.Path.{sym, _∙_}
-use Rattle.message.proofs.RuleLaws.{node-high, no-place, many-places, place-high, only-falls}
+use Rattle.message.proofs.ChallengeRuleLaws.{node-high, no-place, many-places, place-high, only-falls}
 use Rattle.message.proofs.asking.out_of_rule.Statement.{statement}
 use Rattle.message.proofs.asking.out_of_rule.Tie as tie
 

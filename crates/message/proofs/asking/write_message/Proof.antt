@@ -5,7 +5,7 @@ use mathlib.Core.Path.{_≡_, refl}
 use native.Mathlib.Omega.{arith}
 use lib.ListN.{length}
 use Rattle.message.specs.Challenge.{challengeLength}
-use Rattle.message.proofs.MessageLaws.{ItemsIn, head-written, item-written, all-written}
+use Rattle.message.proofs.ChallengeWriteLaws.{ItemsIn, head-written, item-written, all-written}
 use Rattle.message.proofs.asking.write_message.Statement.{statement}
 use Rattle.message.proofs.asking.write_message.Tie as tie
 

@@ -8,7 +8,7 @@ use Rattle.sizes.proofs.SizeLaws.{not-sizes-outside}
 use Rattle.sizes.specs.Lengths.{placeCount}
 use Rattle.sizes.proofs.PlaceLaws.{count-low}
 use Rattle.archive.proofs.CallLaws.{read-sizes, read-length}
-use Rattle.reading.specs.Choice.{Choice}
+use Rattle.reading.specs.PrivateChoice.{Choice}
 use Rattle.reading.proofs.ChoiceLaws.{choice-none}
 use Rattle.reading.proofs.choosing.choose.Statement.{statement}
 use Rattle.reading.proofs.choosing.choose.Tie as tie

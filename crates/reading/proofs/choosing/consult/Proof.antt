@@ -4,10 +4,10 @@ use Prim.Native.Nat.{ℕ}
 use mathlib.Core.Path.{sym, _∙_}
 use native.Mathlib.Omega.{arith}
 use Rattle.sizes.proofs.SizeLaws.{ranged}
-use Rattle.linear.specs.Elimination.{cells}
+use Rattle.linear.specs.PrivateElimination.{cells}
 use Rattle.archive.specs.Layout.{markAt}
 use Rattle.lists.proofs.CountLaws.{howMany-most}
-use Rattle.reading.proofs.RowLaws.{place-low}
+use Rattle.reading.proofs.PlaceRowLaws.{place-low}
 use Rattle.reading.proofs.ChoiceLaws.{choice-skip}
 use Rattle.reading.proofs.ConsultLaws.{longer-there, consult-drop, consult-take}
 use Rattle.reading.proofs.choosing.consult.Statement.{statement}

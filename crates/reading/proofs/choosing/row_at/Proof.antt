@@ -1,7 +1,7 @@
 use native.Mathlib.Omega.{arith}
 use Rattle.sizes.proofs.SizeLaws.{ranged}
 use Rattle.sizes.proofs.PlaceLaws.{record-fits}
-use Rattle.reading.proofs.RowLaws.{place-low, row-kept}
+use Rattle.reading.proofs.PlaceRowLaws.{place-low, row-kept}
 use Rattle.reading.proofs.choosing.row_at.Statement.{statement}
 use Rattle.reading.proofs.choosing.row_at.Tie as tie
 

@@ -7,7 +7,7 @@ use native.Mathlib.Omega.{arith}
 use lib.ListN.{length, length-set}
 use Rattle.lists.specs.Lists.{at}
 use Rattle.sizes.proofs.SizeLaws.{ranged}
-use Rattle.linear.specs.Elimination.{cells}
+use Rattle.linear.specs.PrivateElimination.{cells}
 use Rattle.linear.proofs.KeptLaws.{kept-at}
 use Rattle.linear.proofs.ArrayLaws.{stored}
 use Rattle.archive.specs.Read.{rowIn}

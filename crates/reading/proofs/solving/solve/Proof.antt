@@ -8,7 +8,7 @@ use Rattle.lists.proofs.PutLaws.{grid-none}
 use Rattle.vector.specs.Vectors.{mixed}
 use Rattle.sizes.proofs.SizeLaws.{ranged}
 use Rattle.vector.proofs.AddedLaws.{row-made}
-use Rattle.linear.specs.Elimination.{cells}
+use Rattle.linear.specs.PrivateElimination.{cells}
 use Rattle.archive.specs.Layout.{byteIn}
 use Rattle.reading.proofs.SolvingLaws.{row-fits, row-low}
 use Rattle.reading.proofs.solving.solve.Statement.{statement}

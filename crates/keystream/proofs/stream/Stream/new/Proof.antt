@@ -1,4 +1,4 @@
-use Rattle.keystream.specs.Draws.{begun, fresh}
+use Rattle.keystream.specs.PrivateStream.{begun, fresh}
 use Rattle.keystream.specs.ChaCha.{start}
 use borrow.Author.Needs.{needs}
 use Rattle.keystream.proofs.stream.Stream.new.Statement.{statement}
