@@ -5,7 +5,7 @@ use Rattle.answer.specs.declared.Refusal.the-variants.{Size, Length, Bad
 use Rattle.answer.specs.declared.Outcome.{Outcome}
 use Rattle.answer.specs.declared.Outcome.the-variants.{Done, Refused}
 
-abbrev pub refusalNumber : Refusal → ℕ
+abbrev pub refusalNumber : (ZeroInverse : Refusal) → ℕ
 refusalNumber Size = 1
 refusalNumber Length = 2
 refusalNumber BadArchive = 3

@@ -15,7 +15,7 @@ refuse true r next = Refused r
 refuse false r next = next
 
 -- nothing is refused
-abbrev pub Passed : Outcome → Type 0
+abbrev pub Passed : (o : Outcome) → Type 0
 Passed o = o ≡ Done
 
 -- "A refusal returns its number alone, and all lent memory keeps its bytes": the bytes before, or what the work writes
@@ -23,9 +23,9 @@ unfoldable pub afterwards : {A : Type 0} → Outcome → A → A → A
 afterwards Done before written = written
 afterwards (Refused r) before written = before
 
-abbrev pub differs : ℕ → ℕ → Bool
+abbrev pub differs : (a b : ℕ) → Bool
 differs a b = not (eqb a b)
 
 -- x is below lo or above hi
-unfoldable pub outside : ℕ → ℕ → ℕ → Bool
+unfoldable pub outside : (lo hi x : ℕ) → Bool
 outside lo hi x = anyOf (ltb x lo ∷ ltb hi x ∷ [])

@@ -27,7 +27,7 @@ answerFor z filled (encode node place file padding tagKey row) = encodeFor z fil
 answerFor z filled (lose node) = loseFor z node
 answerFor z filled (repair target helpers q gammas thetas scratch) = repairFor z filled target helpers q gammas thetas scratch
 
-unfoldable pub archiveAnswer : List ℕ → Call → Outcome
+unfoldable pub archiveAnswer : (s : List ℕ) (c : Call) → Outcome
 archiveAnswer s c = refuse (badArchive s) BadArchive (answerFor (sizesOf s) (filledIn (sizesOf s) s) c)
 
 -- ---- what an accepted call makes of the archive
@@ -37,10 +37,10 @@ effectFor z id archive (encode node place file padding tagKey row) = encoded z i
 effectFor z id archive (lose node) = lost z archive node
 effectFor z id archive (repair target helpers q gammas thetas scratch) = repaired z archive target helpers q gammas thetas
 
-unfoldable pub archiveAfter : List ℕ → Call → List ℕ
+unfoldable pub archiveAfter : (s : List ℕ) (c : Call) → List ℕ
 archiveAfter s c = afterwards (archiveAnswer s c) s (effectFor (sizesOf s) (idOf s) s c)
 
-unfoldable pub scratchAfter : List ℕ → ℕ → List ℕ → ℕ → List ℕ → List ℕ → List ℕ → List ℕ
+unfoldable pub scratchAfter : (s : List ℕ) (target : ℕ) (helpers : List ℕ) (q : ℕ) (gammas thetas scratch : List ℕ) → List ℕ
 scratchAfter s target helpers q gammas thetas scratch =
     afterwards (archiveAnswer s (repair target helpers q gammas thetas (length scratch))) scratch (scratchMade (sizesOf s) s helpers q gammas)
 

@@ -25,12 +25,12 @@ pub record Listed (z : Sizes) (filled : ℕ → ℕ → Bool) (count : ℕ) (lis
   pub only : (j : ℕ) → j < count → (at list j / 8 < z .nodes) × (at list j % 8 < z .places)
   pub rest : (j : ℕ) → count ≤ j → j < placeCount z → at list j ≡ 0
 
-abbrev pub inventoryBefore : Sizes → List ℕ → List ℕ → Outcome
+abbrev pub inventoryBefore : (z : Sizes) (s out : List ℕ) → Outcome
 inventoryBefore z s out = refuse (badArchive s) BadArchive (refuse (differs (length out) (placeCount z)) Length Done)
 
 abbrev pub InventoryFor : Sizes → List ℕ → List ℕ → Counted → List ℕ → Type 0
 InventoryFor z s out (Refused r) written = (written ≡ out) × (inventoryBefore z s out ≡ RefusedOutcome r)
 InventoryFor z s out (Count count) written = (inventoryBefore z s out ≡ Done) × Listed z (filledIn z s) count written
 
-abbrev pub InventoryAllows : List ℕ → List ℕ → Counted → List ℕ → Type 0
+abbrev pub InventoryAllows : (s out : List ℕ) (answer : Counted) (written : List ℕ) → Type 0
 InventoryAllows s out answer written = InventoryFor (sizesOf s) s out answer written

@@ -10,19 +10,19 @@ use Rattle.answer.specs.declared.Refusal.the-variants.{Size, Length}
 use Rattle.answer.specs.Refusals.{refuse, afterwards, differs}
 use Rattle.sizes.specs.declared.Sizes.{Sizes}
 use Rattle.sizes.specs.Sizes.{sizesOutside}
-use Rattle.sizes.specs.Lengths.{archiveLength}
+use Rattle.sizes.specs.Lengths.{archiveLength, idLength}
 use Rattle.archive.specs.Layout.{archiveOf}
 
 -- Open "writes the header with no marks, and zero records. 1, a size outside its range; 2, the length of id or archive"
 
-unfoldable pub opened : Sizes → List ℕ → List ℕ
+unfoldable pub opened : (z : Sizes) (id : List ℕ) → List ℕ
 opened z id = archiveOf z id (λ k. false) (λ k p. 0)
 
-unfoldable pub openAnswer : Sizes → List ℕ → List ℕ → Outcome
+unfoldable pub openAnswer : (z : Sizes) (id archive : List ℕ) → Outcome
 openAnswer z id archive =
     refuse (sizesOutside z) Size
-    (refuse (anyOf (differs (length id) 8 ∷ differs (length archive) (archiveLength z) ∷ [])) Length
+    (refuse (anyOf (differs (length id) idLength ∷ differs (length archive) (archiveLength z) ∷ [])) Length
     Done)
 
-unfoldable pub openOut : Sizes → List ℕ → List ℕ → List ℕ
+unfoldable pub openOut : (z : Sizes) (id archive : List ℕ) → List ℕ
 openOut z id archive = afterwards (openAnswer z id archive) archive (opened z id)

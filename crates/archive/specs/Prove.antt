@@ -13,38 +13,38 @@ use Rattle.answer.specs.Refusals.{refuse, afterwards, differs}
 use Rattle.sizes.specs.declared.Sizes.{Sizes}
 use Rattle.vector.specs.Vectors.{mixed}
 use Rattle.mask.specs.Masks.{maskRow, maskCoefficient, mask, maskSum}
-use Rattle.sizes.specs.Lengths.{responseLength, blockLength, placeNumber}
+use Rattle.sizes.specs.Lengths.{responseLength, blockLength, placeNumber, keyLength, auxiliaryLength, seedLength}
 use Rattle.message.specs.Response.{responseBytes}
 use Rattle.message.specs.Challenge.{Challenge, challengeOf, malformedChallenge, notThere}
 use Rattle.archive.specs.Layout.{sizesOf, idOf, filledIn, byteIn, badArchive}
 
 -- the refusals once the header and the challenge are read
-unfoldable pub proveFor : Sizes → (ℕ → ℕ → Bool) → List ℕ → List ℕ → List ℕ → Challenge → List ℕ → Outcome
+unfoldable pub proveFor : (z : Sizes) (filled : ℕ → ℕ → Bool) (maskKey auxiliary seed : List ℕ) (c : Challenge) (out : List ℕ) → Outcome
 proveFor z filled maskKey auxiliary seed c out =
-    refuse (anyOf (differs (length maskKey) 32 ∷ differs (length auxiliary) (z .n - 1) ∷ differs (length seed) 11 ∷ differs (length out) (responseLength (z .n)) ∷ [])) Length
+    refuse (anyOf (differs (length maskKey) keyLength ∷ differs (length auxiliary) (auxiliaryLength (z .n)) ∷ differs (length seed) seedLength ∷ differs (length out) (responseLength (z .n)) ∷ [])) Length
     (refuse (notThere z c) NoSuchPlace
     (refuse (anyBelow (length (c .places)) (λ j. not (filled (c .node) (at (c .places) j)))) PlaceEmpty
     Done))
 
-unfoldable pub proveAnswer : List ℕ → List ℕ → List ℕ → List ℕ → List ℕ → List ℕ → Outcome
+unfoldable pub proveAnswer : (s maskKey auxiliary seed message out : List ℕ) → Outcome
 proveAnswer s maskKey auxiliary seed message out =
     refuse (badArchive s) BadArchive
     (refuse (malformedChallenge message) Malformed
     (proveFor (sizesOf s) (filledIn (sizesOf s) s) maskKey auxiliary seed (challengeOf message) out))
 
 -- the response for a combined block and its tag
-unfoldable pub responseFor : ℕ → List ℕ → List ℕ → List ℕ → List ℕ → ℕ → (ℕ → ℕ) → ℕ → List ℕ
+unfoldable pub responseFor : (n : ℕ) (id maskKey auxiliary seed : List ℕ) (node : ℕ) (block : ℕ → ℕ) (tag : ℕ) → List ℕ
 responseFor n id maskKey auxiliary seed node block tag =
     responseBytes n node block tag (mask n (maskCoefficient maskKey seed) (maskRow maskKey id)) seed (maskSum n (maskCoefficient maskKey seed) auxiliary)
 
 -- byte e of the named places' records, combined by the challenge
-unfoldable pub namedByte : Sizes → List ℕ → Challenge → ℕ → ℕ
+unfoldable pub namedByte : (z : Sizes) (s : List ℕ) (c : Challenge) (e : ℕ) → ℕ
 namedByte z s c e = mixed (length (c .places)) (at (c .coefficients)) (λ j. byteIn z s (placeNumber z (c .node) (at (c .places) j))) e
 
-unfoldable pub provedFor : Sizes → List ℕ → List ℕ → List ℕ → List ℕ → List ℕ → Challenge → List ℕ
+unfoldable pub provedFor : (z : Sizes) (id s maskKey auxiliary seed : List ℕ) (c : Challenge) → List ℕ
 provedFor z id s maskKey auxiliary seed c =
     responseFor (z .n) id maskKey auxiliary seed (c .node) (namedByte z s c) (namedByte z s c (blockLength z))
 
-unfoldable pub proveOut : List ℕ → List ℕ → List ℕ → List ℕ → List ℕ → List ℕ → List ℕ
+unfoldable pub proveOut : (s maskKey auxiliary seed message out : List ℕ) → List ℕ
 proveOut s maskKey auxiliary seed message out =
     afterwards (proveAnswer s maskKey auxiliary seed message out) out (provedFor (sizesOf s) (idOf s) s maskKey auxiliary seed (challengeOf message))

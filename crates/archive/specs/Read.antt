@@ -19,7 +19,7 @@ use Rattle.answer.specs.declared.Counted.{Counted}
 use Rattle.answer.specs.declared.Counted.the-variants.{Count, Refused}
 
 -- element i of the row of place number k: "A place's row here is the last m elements of its stored block"
-abbrev pub rowIn : Sizes → List ℕ → ℕ → ℕ → ℕ
+abbrev pub rowIn : (z : Sizes) (s : List ℕ) (k i : ℕ) → ℕ
 rowIn z s k i = byteIn z s k (z .n + i)
 
 -- "some non-zero vector of m elements is orthogonal to every" row of the places, by number, that are named; its elements are bytes
@@ -34,7 +34,7 @@ pub record Blind (z : Sizes) (named : ℕ → Bool) (row : ℕ → ℕ → ℕ) 
 -- ---- which places are taken: "Going by box, then place, it takes each filled place whose row is independent of those taken"
 
 -- row k is a combination of the taken rows before it
-abbrev pub Combined : Sizes → List ℕ → (ℕ → Bool) → ℕ → Type 0
+abbrev pub Combined : (z : Sizes) (s : List ℕ) (taken : ℕ → Bool) (k : ℕ) → Type 0
 Combined z s taken k =
     (c : ℕ → ℕ) × ((i : ℕ) → i < z .m → rowIn z s k i ≡ mixed k c (λ j e. pick (taken j) (rowIn z s j e) 0) i)
 
@@ -56,7 +56,7 @@ pub record Solved (z : Sizes) (s file : List ℕ) : Type 0 where
 -- ---- the number of filled places consulted: "free, but at least m, at most all, and the first so many filled places alone must suffice"
 
 -- place k is one of the first `count` filled places
-abbrev pub among : ℕ → (ℕ → Bool) → ℕ → Bool
+abbrev pub among : (count : ℕ) (filled : ℕ → Bool) (k : ℕ) → Bool
 among count filled k = pick (filled k) (ltb (howMany k filled) count) false
 
 pub record Enough (z : Sizes) (filled : ℕ → Bool) (row : ℕ → ℕ → ℕ) (count : ℕ) : Type 0 where
@@ -66,7 +66,7 @@ pub record Enough (z : Sizes) (filled : ℕ → Bool) (row : ℕ → ℕ → ℕ
 
 -- ---- "3; 2, output length; 8, some non-zero vector of m elements is orthogonal to every filled row"
 
-abbrev pub readBefore : Sizes → List ℕ → List ℕ → Outcome
+abbrev pub readBefore : (z : Sizes) (s out : List ℕ) → Outcome
 readBefore z s out = refuse (badArchive s) BadArchive (refuse (differs (length out) (fileLength z)) Length Done)
 
 -- refused: nothing is written; otherwise the number and the file
@@ -77,5 +77,5 @@ ReadFor z s out (Refused r) written =
 ReadFor z s out (Count count) written =
     (readBefore z s out ≡ Done) × (¬ Blind z (markAt s) (rowIn z s)) × Solved z s written × Enough z (markAt s) (rowIn z s) count
 
-abbrev pub ReadAllows : List ℕ → List ℕ → Counted → List ℕ → Type 0
+abbrev pub ReadAllows : (s out : List ℕ) (answer : Counted) (written : List ℕ) → Type 0
 ReadAllows s out answer written = ReadFor (sizesOf s) s out answer written

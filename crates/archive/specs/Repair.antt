@@ -33,23 +33,23 @@ repairFor z filled target helpers q gammas thetas scratch =
     Done))))
 
 -- "gamma(i,j,l) stands at (iQ+j)M+l, theta(i,j,k) at (iQ+j)M+k"
-abbrev pub coefficient : Sizes → ℕ → List ℕ → ℕ → ℕ → ℕ → ℕ
+abbrev pub coefficient : (z : Sizes) (q : ℕ) (cs : List ℕ) (i j l : ℕ) → ℕ
 coefficient z q cs i j l = at cs ((i * q + j) * z .places + l)
 
 -- the sum over helpers i and repair blocks j of theta(i,j,k) times the sum over places l of gamma(i,j,l) times what x gives for the
 -- helper's place l
-abbrev pub repairSum : Sizes → List ℕ → ℕ → List ℕ → List ℕ → ℕ → (ℕ → ℕ → ℕ) → ℕ
+abbrev pub repairSum : (z : Sizes) (helpers : List ℕ) (q : ℕ) (gammas thetas : List ℕ) (k : ℕ) (x : ℕ → ℕ → ℕ) → ℕ
 repairSum z helpers q gammas thetas k x =
     sum (length helpers) (λ i. sum q (λ j.
     times (coefficient z q thetas i j k) (sum (z .places) (λ l. times (coefficient z q gammas i j l) (x (at helpers i) l)))))
 
 -- "Repair block (i,j) is helper i's records, block and tag, combined by gamma(i,j,l)": its byte e
-unfoldable pub repairByte : Sizes → List ℕ → List ℕ → ℕ → List ℕ → ℕ → ℕ → ℕ → ℕ
+unfoldable pub repairByte : (z : Sizes) (s helpers : List ℕ) (q : ℕ) (gammas : List ℕ) (i j e : ℕ) → ℕ
 repairByte z s helpers q gammas i j e =
     mixed (z .places) (coefficient z q gammas i j) (λ l. byteIn z s (placeNumber z (at helpers i) l)) e
 
 -- "target record k is all repair blocks, with tags, combined by theta(i,j,k)": its byte e
-unfoldable pub targetByte : Sizes → List ℕ → List ℕ → ℕ → List ℕ → List ℕ → ℕ → ℕ → ℕ
+unfoldable pub targetByte : (z : Sizes) (s helpers : List ℕ) (q : ℕ) (gammas thetas : List ℕ) (k e : ℕ) → ℕ
 targetByte z s helpers q gammas thetas k e =
     sum (length helpers) (λ i. sum q (λ j. times (coefficient z q thetas i j k) (repairByte z s helpers q gammas i j e)))
 
@@ -59,5 +59,5 @@ repaired z archive target helpers q gammas thetas =
     stored z true (placeNumber z target 0) (z .places) (targetByte z archive helpers q gammas thetas) archive
 
 -- the scratch buffer "afterwards holds the repair blocks with tags, helper by helper": "repair block (i,j) at (iQ+j)(n+m+1)"
-unfoldable pub scratchMade : Sizes → List ℕ → List ℕ → ℕ → List ℕ → List ℕ
+unfoldable pub scratchMade : (z : Sizes) (s helpers : List ℕ) (q : ℕ) (gammas : List ℕ) → List ℕ
 scratchMade z s helpers q gammas = flat (length helpers * q) (recordLength z) (λ t. repairByte z s helpers q gammas (t / q) (t % q))

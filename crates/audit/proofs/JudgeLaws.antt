@@ -63,7 +63,7 @@ module _ (z : Sizes) (low : 3 ≤ z .n) (row response vector : List ℕ) where
   clear-part : (e : ℕ) → e < 2 → all (n - 2 + e) ≡ at response (n + 11 + e)
   unfolding appended dataIn
   clear-part e h =
-      let q : 13 + (n - 2 + e) ≡ n + 11 + e = omega arith in
+      let q : n + 11 + (n - 2 + e - (n - 2)) ≡ n + 11 + e = omega arith in
       rw (lt-ltb (n - 2 + e) n (omega arith), le-ltb (n - 2 + e) (n - 2) (omega arith), q)
 
   row-part : (e : ℕ) → all (n - 2 + 2 + e) ≡ at row e

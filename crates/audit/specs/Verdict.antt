@@ -16,7 +16,7 @@ use Rattle.sizes.specs.declared.Sizes.{Sizes}
 use Rattle.sizes.specs.Sizes.{sizesOutside}
 use Rattle.vector.specs.Vectors.{product, mixed}
 use Rattle.tag.specs.KeyVector.{keyVector}
-use Rattle.sizes.specs.Lengths.{responseLength}
+use Rattle.sizes.specs.Lengths.{responseLength, keyLength, idLength}
 use Rattle.message.specs.Response.{responseHead, dataIn, sumIn, tagIn}
 use Rattle.message.specs.Challenge.{Challenge, challengeOf, malformedChallenge, notThere}
 use Rattle.audit.specs.declared.Judgement.{Judgement}
@@ -29,25 +29,25 @@ judgementNumber Rejected = 255
 judgementNumber (Refused r) = refusalNumber r
 
 -- the refusals, once the challenge is read
-unfoldable pub verdictFor : Sizes → List ℕ → List ℕ → List ℕ → Challenge → Bool → List ℕ → Outcome
+unfoldable pub verdictFor : (z : Sizes) (tagKey id rows : List ℕ) (c : Challenge) (malformed : Bool) (response : List ℕ) → Outcome
 verdictFor z tagKey id rows c malformed response =
     refuse (sizesOutside z) Size
     (refuse malformed Malformed
-    (refuse (anyOf (differs (length tagKey) 32 ∷ differs (length id) 8 ∷ differs (length rows) (z .places * z .m) ∷ differs (length response) (responseLength (z .n)) ∷ [])) Length
+    (refuse (anyOf (differs (length tagKey) keyLength ∷ differs (length id) idLength ∷ differs (length rows) (z .places * z .m) ∷ differs (length response) (responseLength (z .n)) ∷ [])) Length
     (refuse (notThere z c) NoSuchPlace
     (refuse (differs (at response 0) (at (responseHead (c .node)) 0)) Malformed
     Done))))
 
 -- "It combines the rows of the named places by the challenge (the other rows don't count)"; row p stands at p·m
-unfoldable pub namedRow : Sizes → List ℕ → Challenge → ℕ → ℕ
+unfoldable pub namedRow : (z : Sizes) (rows : List ℕ) (c : Challenge) (i : ℕ) → ℕ
 namedRow z rows c i = mixed (length (c .places)) (at (c .coefficients)) (λ j e. at rows (at (c .places) j * z .m + e)) i
 
 -- "appends the result to the n data elements"
-unfoldable pub appended : ℕ → List ℕ → (ℕ → ℕ) → ℕ → ℕ
+unfoldable pub appended : (n : ℕ) (response : List ℕ) (row : ℕ → ℕ) (e : ℕ) → ℕ
 appended n response row e = pick (ltb e n) (dataIn n response e) (row (e - n))
 
 -- "accepts exactly when their product with the key vector equals tag plus mask sum": over any key vector and combined row
-unfoldable pub accepts : Sizes → (ℕ → ℕ) → (ℕ → ℕ) → List ℕ → Bool
+unfoldable pub accepts : (z : Sizes) (vector row : ℕ → ℕ) (response : List ℕ) → Bool
 accepts z vector row response =
     eqb (product (z .n + z .m) (appended (z .n) response row) vector) (plus (tagIn (z .n) response) (sumIn (z .n) response))
 
@@ -55,7 +55,7 @@ unfoldable pub judgement : Outcome → Bool → Judgement
 judgement Done accepted = pick accepted Accepted Rejected
 judgement (RefusedOutcome r) accepted = Refused r
 
-unfoldable pub verdictOf : List ℕ → List ℕ → Sizes → List ℕ → List ℕ → List ℕ → Judgement
+unfoldable pub verdictOf : (tagKey id : List ℕ) (z : Sizes) (rows message response : List ℕ) → Judgement
 verdictOf tagKey id z rows message response =
     judgement (verdictFor z tagKey id rows (challengeOf message) (malformedChallenge message) response)
     (accepts z (keyVector tagKey id) (namedRow z rows (challengeOf message)) response)

@@ -19,7 +19,7 @@ _wide_ w v = record { width = w; value = v }
 -- ---- packing
 
 -- bit i, counted from 0, of a value of w bits, the most significant first
-unfoldable pub bitOf : ℕ → ℕ → ℕ → Bool
+unfoldable pub bitOf : (w v i : ℕ) → Bool
 bitOf w v i = eqb (v / 2 ^ (w - (i + 1)) % 2) 1
 
 -- bit k of fields in a row; zero past the last
@@ -33,34 +33,34 @@ widths [] = 0
 widths (f ∷ fs) = f .width + widths fs
 
 -- the number whose w bits are f 0, f 1, .., the most significant first
-unfoldable pub number : (ℕ → Bool) → ℕ → ℕ
+unfoldable pub number : (f : ℕ → Bool) (w : ℕ) → ℕ
 number f zero = 0
 number f (suc w) = number f w * 2 + bit (f w)
 
 -- `len` bytes with these bits
-unfoldable pub packed : ℕ → (ℕ → Bool) → List ℕ
+unfoldable pub packed : (len : ℕ) (bits : ℕ → Bool) → List ℕ
 packed len bits = tab len (λ j. number (λ i. bits (8 * j + i)) 8)
 
 -- the bytes that hold so many bits
-abbrev pub bytesFor : ℕ → ℕ
+abbrev pub bytesFor : (bits : ℕ) → ℕ
 bytesFor bits = (bits + 7) / 8
 
 -- fields in a row, with zero bits to a whole byte
-unfoldable pub pack : List BitField → List ℕ
+unfoldable pub pack : (fs : List BitField) → List ℕ
 pack fs = packed (bytesFor (widths fs)) (bitsOf fs)
 
 -- ---- reading and writing a field at a bit offset
 
 -- bit k of bytes
-unfoldable pub bitAt : List ℕ → ℕ → Bool
+unfoldable pub bitAt : (s : List ℕ) (k : ℕ) → Bool
 bitAt s k = eqb (at s (k / 8) / 2 ^ (7 - k % 8) % 2) 1
 
 -- the field of w bits at bit `from`
-unfoldable pub fieldAt : List ℕ → ℕ → ℕ → ℕ
+unfoldable pub fieldAt : (s : List ℕ) (from w : ℕ) → ℕ
 fieldAt s from w = number (λ i. bitAt s (from + i)) w
 
 -- the same bytes, but for the w bits from bit `from` on, which are the value's
-unfoldable pub withField : List ℕ → ℕ → ℕ → ℕ → List ℕ
+unfoldable pub withField : (s : List ℕ) (from w v : ℕ) → List ℕ
 withField s from w v = packed (length s) (over from w (bitOf w v) (bitAt s))
 
 -- ---- what is promised of them

@@ -9,7 +9,7 @@ use Rattle.field.specs.declared.Inverted.{Inverted}
 use Rattle.field.specs.declared.Inverted.the-variants.{Element, Zero}
 use Rattle.field.specs.Field.{inverseOf}
 
-unfoldable pub inverted : ℕ → Inverted
+unfoldable pub inverted : (a : ℕ) → Inverted
 inverted a = pick (eqb a 0) Zero (Element (inverseOf a))
 
 -- what each case says: an element is done, with its value; Zero is the refusal 10, without one

@@ -6,7 +6,7 @@ use Rattle.lists.specs.Lists.{at, tab}
 use Rattle.field.specs.Field.{power}
 
 -- 255 entries twice in a row: the sum of two logarithms is then an index
-unfoldable pub doubled : List ℕ → List ℕ
+unfoldable pub doubled : (p : List ℕ) → List ℕ
 doubled p = tab 510 (λ k. at p (k % 255))
 
 -- entry k is 03 to the k

@@ -7,13 +7,14 @@ use Rattle.answer.specs.declared.Outcome.the-variants.{Done}
 use Rattle.answer.specs.declared.Refusal.the-variants.{Length}
 use Rattle.answer.specs.Refusals.{refuse, afterwards, differs}
 use Rattle.keystream.specs.ChaCha.{blockOf}
+use Rattle.sizes.specs.Lengths.{keyLength, nonceLength, streamBlockLength}
 
-unfoldable pub blockAnswer : List ℕ → List ℕ → List ℕ → Outcome
+unfoldable pub blockAnswer : (key nonce out : List ℕ) → Outcome
 blockAnswer key nonce out =
-    refuse (differs (length key) 32) Length
-    (refuse (differs (length nonce) 12) Length
-    (refuse (differs (length out) 64) Length
+    refuse (differs (length key) keyLength) Length
+    (refuse (differs (length nonce) nonceLength) Length
+    (refuse (differs (length out) streamBlockLength) Length
     Done))
 
-unfoldable pub blockOut : List ℕ → ℕ → List ℕ → List ℕ → List ℕ
+unfoldable pub blockOut : (key : List ℕ) (counter : ℕ) (nonce out : List ℕ) → List ℕ
 blockOut key counter nonce out = afterwards (blockAnswer key nonce out) out (blockOf key counter nonce)

@@ -12,11 +12,11 @@ use Rattle.keystream.specs.declared.stream.Drawn.{Drawn}
 use Rattle.keystream.specs.Draws.{byteAt}
 
 -- 16 words as 8 numbers of 64 bits
-unfoldable pub pairsOf : List ℕ → List ℕ
+unfoldable pub pairsOf : (ws : List ℕ) → List ℕ
 pairsOf ws = tab 8 (λ i. at ws (i * 2) + 4294967296 * at ws (i * 2 + 1))
 
 -- at the start of the block that the state `words` starts; the next block's counter is one more, modulo 2 ^ 32
-unfoldable pub begun : List ℕ → Stream
+unfoldable pub begun : (words : List ℕ) → Stream
 begun words =
     record {
       at = 0;
@@ -26,11 +26,11 @@ begun words =
     }
 
 -- a new stream starts at counter 0
-unfoldable pub fresh : List ℕ → List ℕ → Stream
+unfoldable pub fresh : (key nonce : List ℕ) → Stream
 fresh key nonce = begun (start key 0 nonce)
 
 -- the stream at the next place of its block: 0 begins the next block, a multiple of 8 the next number
-unfoldable pub movedTo : ℕ → Stream → Stream
+unfoldable pub movedTo : (i : ℕ) (s : Stream) → Stream
 movedTo i s =
     pick (eqb (i % 8) 0)
     (pick (eqb i 0)
@@ -39,11 +39,11 @@ movedTo i s =
     (record { at = i; cur = s .cur / 2 ^ 8; words = s .words; cache = s .cache })
 
 -- one draw: the byte, and the stream after it
-unfoldable pub drawn : Stream → Drawn
+unfoldable pub drawn : (s : Stream) → Drawn
 drawn s = record { byte = s .cur % 256; stream = movedTo ((s .at % 64 + 1) % 64) s }
 
 -- a stream after n draws
-unfoldable pub after : ℕ → Stream → Stream
+unfoldable pub after : (n : ℕ) (s : Stream) → Stream
 after zero s = s
 after (suc n) s = drawn (after n s) .stream
 

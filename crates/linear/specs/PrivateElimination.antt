@@ -15,15 +15,15 @@ abbrev pub cells : List (List ℕ) → Matrix
 cells a i j = at (getD a i []) j
 
 -- the first k elements are bytes
-abbrev pub BytesTo : ℕ → (ℕ → ℕ) → Type 0
+abbrev pub BytesTo : (k : ℕ) (x : ℕ → ℕ) → Type 0
 BytesTo k x = (i : ℕ) → i < k → x i < 256
 
 -- only the zero vector of m elements is orthogonal to all k rows
-abbrev pub Determining : ℕ → ℕ → Matrix → Type 0
+abbrev pub Determining : (k m : ℕ) (a : Matrix) → Type 0
 Determining k m a = (x : ℕ → ℕ) → BytesTo m x → ((j : ℕ) → j < k → product m (a j) x ≡ 0) → (i : ℕ) → i < m → x i ≡ 0
 
 -- only the combination of zeros of the k rows vanishes
-abbrev pub Independent : ℕ → ℕ → Matrix → Type 0
+abbrev pub Independent : (k m : ℕ) (a : Matrix) → Type 0
 Independent k m a = (y : ℕ → ℕ) → BytesTo k y → ((c : ℕ) → c < m → mixed k y a c ≡ 0) → (j : ℕ) → j < k → y j ≡ 0
 
 -- a non-zero vector of m bytes that is orthogonal to all k rows

@@ -5,5 +5,5 @@ use Rattle.lists.specs.Lists.{pick, tab}
 use Rattle.linear.specs.declared.rows.Row.{Row}
 
 -- document 01, "Row table": a row of m elements as it is kept, sixteen bytes with its elements in the first m and zeros behind them
-unfoldable pub kept : ℕ → (ℕ → ℕ) → Row
+unfoldable pub kept : (m : ℕ) (v : ℕ → ℕ) → Row
 kept m v = record { bytes = tab 16 (λ i. pick (ltb i m) (v i) 0) }

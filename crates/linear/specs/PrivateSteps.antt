@@ -11,7 +11,7 @@ abbrev pub Vec : Type 0
 Vec = ℕ → ℕ
 
 -- a where the index p is r, else b
-unfoldable pub sel : ℕ → ℕ → ℕ → ℕ → ℕ
+unfoldable pub sel : (p r a b : ℕ) → ℕ
 sel p r a b = pick (eqb p r) a b
 
 -- 1 at the index q, else 0
@@ -19,7 +19,7 @@ abbrev pub unitAt : ℕ → Vec
 unitAt q i = sel i q 1 0
 
 -- rows i and j change places
-abbrev pub swap : ℕ → ℕ → ℕ → ℕ
+abbrev pub swap : (i j p : ℕ) → ℕ
 swap i j p = sel p i j (sel p j i p)
 
 abbrev pub swapOp : ℕ → ℕ → Vec → Vec
@@ -34,5 +34,5 @@ abbrev pub clearOp : ℕ → Vec → Vec → Vec
 clearOp r b u p = sel p r (u p) (plus (u p) (times (b p) (u r)))
 
 -- the operation f makes the matrix s of the matrix a, in the first k rows
-abbrev pub Operated : ℕ → (Vec → Vec) → List (List ℕ) → List (List ℕ) → Type 0
+abbrev pub Operated : (k : ℕ) (f : Vec → Vec) (a s : List (List ℕ)) → Type 0
 Operated k f a s = (i j : ℕ) → i < k → j < 16 → cells s i j ≡ f (λ l. cells a l j) i

@@ -11,30 +11,30 @@ pick true a b = a
 pick false a b = b
 
 -- element i, counted from 0; 0 past the end
-abbrev pub at : List ℕ → ℕ → ℕ
+abbrev pub at : (xs : List ℕ) (i : ℕ) → ℕ
 at xs i = getD xs i 0
 
 -- f 0, f 1, .. : n values in a row
-unfoldable pub tab : ℕ → (ℕ → ℕ) → List ℕ
+unfoldable pub tab : (n : ℕ) (f : ℕ → ℕ) → List ℕ
 tab zero f = []
 tab (suc n) f = tab n f ++ (f n ∷ [])
 
 -- g, but f (counted from 0) at the n indices from `from` on
-unfoldable pub over : {A : Type 0} → ℕ → ℕ → (ℕ → A) → (ℕ → A) → ℕ → A
+unfoldable pub over : {A : Type 0} (from n : ℕ) (f g : ℕ → A) (i : ℕ) → A
 over from n f g i = pick (ltb i from) (g i) (pick (ltb i (from + n)) (f (i - from)) (g i))
 
 -- n rows of m values each, row after row
-unfoldable pub flat : ℕ → ℕ → (ℕ → ℕ → ℕ) → List ℕ
+unfoldable pub flat : (n m : ℕ) (f : ℕ → ℕ → ℕ) → List ℕ
 flat zero m f = []
 flat (suc n) m f = flat n m f ++ tab m (f n)
 
 -- d with f j at each index `from` + j, for j below n
-unfoldable pub put : ℕ → ℕ → (ℕ → ℕ) → List ℕ → List ℕ
+unfoldable pub put : (n from : ℕ) (f : ℕ → ℕ) (d : List ℕ) → List ℕ
 put zero from f d = d
 put (suc n) from f d = set (put n from f d) (from + n) (f n)
 
 -- n rows of m stores each: f t j stands at `from` + t * m + j
-unfoldable pub grid : ℕ → ℕ → ℕ → (ℕ → ℕ → ℕ) → List ℕ → List ℕ
+unfoldable pub grid : (n m from : ℕ) (f : ℕ → ℕ → ℕ) (d : List ℕ) → List ℕ
 grid zero m from f d = d
 grid (suc n) m from f d = put m (from + n * m) (f n) (grid n m from f d)
 
@@ -46,7 +46,7 @@ anyOf [] = false
 anyOf (t ∷ ts) = pick t true (anyOf ts)
 
 -- some index below n passes
-unfoldable pub anyBelow : ℕ → (ℕ → Bool) → Bool
+unfoldable pub anyBelow : (n : ℕ) (p : ℕ → Bool) → Bool
 anyBelow zero p = false
 anyBelow (suc n) p = pick (p n) true (anyBelow n p)
 
@@ -57,10 +57,10 @@ bit true = 1
 bit false = 0
 
 -- how many indices below n pass
-unfoldable pub howMany : ℕ → (ℕ → Bool) → ℕ
+unfoldable pub howMany : (n : ℕ) (p : ℕ → Bool) → ℕ
 howMany zero p = 0
 howMany (suc n) p = howMany n p + bit (p n)
 
 -- every element is a byte
-abbrev pub Bytes : List ℕ → Type 0
+abbrev pub Bytes : (xs : List ℕ) → Type 0
 Bytes xs = (i : ℕ) → i < length xs → at xs i < 256

@@ -7,31 +7,31 @@ use Rattle.keystream.specs.Draws.{byteAt}
 use Rattle.vector.specs.Vectors.{product, mixed}
 
 -- "F2(k, id, i, j): byte j−1 with nonce 02 00, i as two bytes (high first), id"
-unfoldable pub F2 : List ℕ → List ℕ → ℕ → ℕ → ℕ
+unfoldable pub F2 : (key id : List ℕ) (i j : ℕ) → ℕ
 F2 key id i j = byteAt key (2 ∷ 0 ∷ i / 256 % 256 ∷ i % 256 ∷ id) (j - 1)
 
 -- "F3(k, r, i): byte i−1 with nonce 03 r, the seed r being 11 bytes"
-unfoldable pub F3 : List ℕ → List ℕ → ℕ → ℕ
+unfoldable pub F3 : (key seed : List ℕ) (i : ℕ) → ℕ
 F3 key seed i = byteAt key (3 ∷ seed) (i - 1)
 
 -- "Mask row i (1 to n−1) is F2 for j from 1 to n−2": row i and element e, both counted from 0
-unfoldable pub maskRow : List ℕ → List ℕ → ℕ → ℕ → ℕ
+unfoldable pub maskRow : (key id : List ℕ) (i e : ℕ) → ℕ
 maskRow key id i e = F2 key id (i + 1) (e + 1)
 
 -- the coefficient of mask row i, counted from 0
-unfoldable pub maskCoefficient : List ℕ → List ℕ → ℕ → ℕ
+unfoldable pub maskCoefficient : (key seed : List ℕ) (i : ℕ) → ℕ
 maskCoefficient key seed i = F3 key seed (i + 1)
 
 -- ---- over any key vector, mask rows and coefficients
 
 -- "Auxiliary element i is mask row i times the first n−2 key elements"
-unfoldable pub auxiliary : ℕ → (ℕ → ℕ) → (ℕ → ℕ → ℕ) → List ℕ
+unfoldable pub auxiliary : (n : ℕ) (vector : ℕ → ℕ) (rows : ℕ → ℕ → ℕ) → List ℕ
 auxiliary n vector rows = tab (n - 1) (λ i. product (n - 2) (rows i) vector)
 
 -- "The mask is the sum of F3 times mask row"
-unfoldable pub mask : ℕ → (ℕ → ℕ) → (ℕ → ℕ → ℕ) → ℕ → ℕ
+unfoldable pub mask : (n : ℕ) (coefficients : ℕ → ℕ) (rows : ℕ → ℕ → ℕ) → ℕ → ℕ
 mask n coefficients rows = mixed (n - 1) coefficients rows
 
 -- "the mask sum that of F3 times auxiliary element"
-unfoldable pub maskSum : ℕ → (ℕ → ℕ) → List ℕ → ℕ
+unfoldable pub maskSum : (n : ℕ) (coefficients : ℕ → ℕ) (elements : List ℕ) → ℕ
 maskSum n coefficients elements = sum (n - 1) (λ i. times (coefficients i) (at elements i))

@@ -9,18 +9,19 @@ use Rattle.answer.specs.declared.Outcome.the-variants.{Done}
 use Rattle.answer.specs.declared.Refusal.the-variants.{Size, Length, ZeroKeyVector}
 use Rattle.answer.specs.Refusals.{refuse, afterwards, differs}
 use Rattle.sizes.specs.Sizes.{nOutside}
+use Rattle.sizes.specs.Lengths.{keyLength, idLength, auxiliaryLength}
 use Rattle.tag.specs.KeyVector.{keyVector}
 use Rattle.mask.specs.Masks.{maskRow, auxiliary}
 
 -- Setup "takes both keys, id and n, and writes n−1 auxiliary elements": "1, n; 2, a length; 7, the first n−2 key elements are all zero"
 
-unfoldable pub setupAnswer : List ℕ → List ℕ → List ℕ → ℕ → List ℕ → Outcome
+unfoldable pub setupAnswer : (tagKey maskKey id : List ℕ) (n : ℕ) (out : List ℕ) → Outcome
 setupAnswer tagKey maskKey id n out =
     refuse (nOutside n) Size
-    (refuse (anyOf (differs (length tagKey) 32 ∷ differs (length maskKey) 32 ∷ differs (length id) 8 ∷ differs (length out) (n - 1) ∷ [])) Length
+    (refuse (anyOf (differs (length tagKey) keyLength ∷ differs (length maskKey) keyLength ∷ differs (length id) idLength ∷ differs (length out) (auxiliaryLength n) ∷ [])) Length
     (refuse (not (anyBelow (n - 2) (λ e. differs (keyVector tagKey id e) 0))) ZeroKeyVector
     Done))
 
-unfoldable pub setupOut : List ℕ → List ℕ → List ℕ → ℕ → List ℕ → List ℕ
+unfoldable pub setupOut : (tagKey maskKey id : List ℕ) (n : ℕ) (out : List ℕ) → List ℕ
 setupOut tagKey maskKey id n out =
     afterwards (setupAnswer tagKey maskKey id n out) out (auxiliary n (keyVector tagKey id) (maskRow maskKey id))

@@ -118,10 +118,10 @@ module _ (n node : ℕ) (block : ℕ → ℕ) (tag : ℕ) (hidden : ℕ → ℕ)
       (⊎-elim
       (λ (a : i < n - 1).
       let q : i ≡ n - 2 = omega arith in
-      rw q (ap (at r) {x = 13 + (n - 2)} {y = n + 10 + 1} (omega arith) ∙ response-clear 1 ∙ sym (xor-zero-r (block (n - 2)))))
+      rw q (ap (at r) {x = n + 11 + (n - 2 - (n - 2))} {y = n + 10 + 1} (omega arith) ∙ response-clear 1 ∙ sym (xor-zero-r (block (n - 2)))))
       (λ (a : n - 1 ≤ i).
       let q : i ≡ n - 1 = omega arith in
-      rw q (ap (at r) {x = 13 + (n - 1)} {y = n + 10 + 2} (omega arith) ∙ response-clear 2 ∙ sym (xor-zero-r (block (n - 1)))))
+      rw q (ap (at r) {x = n + 11 + (n - 1 - (n - 2))} {y = n + 10 + 2} (omega arith) ∙ response-clear 2 ∙ sym (xor-zero-r (block (n - 1)))))
       (order i (n - 1))))
       (order i (n - 2))
 

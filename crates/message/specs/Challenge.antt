@@ -19,29 +19,29 @@ pub record Challenge : Type 0 where
   pub places : List ℕ
   pub coefficients : List ℕ
 
-abbrev pub challengeFor : ℕ → List ℕ → List ℕ → Challenge
+abbrev pub challengeFor : (node : ℕ) (places coefficients : List ℕ) → Challenge
 challengeFor node places coefficients = record { node = node; places = places; coefficients = coefficients }
 
 -- `count` items, from item i on
-unfoldable pub items : Challenge → ℕ → ℕ → List BitField
+unfoldable pub items : (c : Challenge) (i count : ℕ) → List BitField
 items c i zero = []
 items c i (suc count) = (3 wide at (c .places) i) ∷ (8 wide at (c .coefficients) i) ∷ items c (suc i) count
 
-abbrev pub challengeFields : Challenge → List BitField
+abbrev pub challengeFields : (c : Challenge) → List BitField
 challengeFields c = (4 wide 1) ∷ (3 wide c .node) ∷ (4 wide length (c .places)) ∷ items c 0 (length (c .places))
 
-unfoldable pub challengeBytes : Challenge → List ℕ
+unfoldable pub challengeBytes : (c : Challenge) → List ℕ
 challengeBytes c = pack (challengeFields c)
 
 -- 11 bits, and 11 for each item
-abbrev pub challengeBits : ℕ → ℕ
+abbrev pub challengeBits : (count : ℕ) → ℕ
 challengeBits count = 11 * (count + 1)
 
-abbrev pub challengeLength : ℕ → ℕ
+abbrev pub challengeLength : (count : ℕ) → ℕ
 challengeLength count = bytesFor (challengeBits count)
 
 -- "fields out of rule": a node above 5, no item or more than 8, a place above 7, places that do not rise strictly
-unfoldable pub outOfRule : ℕ → List ℕ → Bool
+unfoldable pub outOfRule : (node : ℕ) (places : List ℕ) → Bool
 outOfRule node places =
     anyOf
     (ltb 5 node
@@ -53,7 +53,7 @@ outOfRule node places =
 -- ---- reading a message
 
 -- the challenge that a message of `count` items says
-unfoldable pub challengeIn : ℕ → List ℕ → Challenge
+unfoldable pub challengeIn : (count : ℕ) (message : List ℕ) → Challenge
 challengeIn count message =
     record {
       node = fieldAt message 4 3;
@@ -61,11 +61,11 @@ challengeIn count message =
       coefficients = tab count (λ j. fieldAt message (challengeBits j + 3) 8);
     }
 
-unfoldable pub challengeOf : List ℕ → Challenge
+unfoldable pub challengeOf : (message : List ℕ) → Challenge
 challengeOf message = challengeIn (fieldAt message 7 4) message
 
 -- "malformed challenge": another kind, fields out of rule, a length that is not exact, or non-zero bits at the end
-unfoldable pub malformedFor : Challenge → List ℕ → Bool
+unfoldable pub malformedFor : (c : Challenge) (message : List ℕ) → Bool
 malformedFor c message =
     anyOf
     (differs (fieldAt message 0 4) 1
@@ -74,21 +74,21 @@ malformedFor c message =
     ∷ differs (fieldAt message (challengeBits (length (c .places))) (8 * challengeLength (length (c .places)) - challengeBits (length (c .places)))) 0
     ∷ [])
 
-abbrev pub malformedChallenge : List ℕ → Bool
+abbrev pub malformedChallenge : (message : List ℕ) → Bool
 malformedChallenge message = malformedFor (challengeOf message) message
 
 -- "the box not below N or a place not below M"
-abbrev pub notThere : Sizes → Challenge → Bool
+abbrev pub notThere : (z : Sizes) (c : Challenge) → Bool
 notThere z c = anyOf (leb (z .nodes) (c .node) ∷ anyBelow (length (c .places)) (λ j. leb (z .places) (at (c .places) j)) ∷ [])
 
 -- ---- Challenge: "2, unequal lists; 9, fields out of rule; 2, output length"
 
-unfoldable pub challengeAnswer : Challenge → List ℕ → Outcome
+unfoldable pub challengeAnswer : (c : Challenge) (message : List ℕ) → Outcome
 challengeAnswer c message =
     refuse (differs (length (c .coefficients)) (length (c .places))) Length
     (refuse (outOfRule (c .node) (c .places)) Malformed
     (refuse (differs (length message) (challengeLength (length (c .places)))) Length
     Done))
 
-unfoldable pub challengeOut : Challenge → List ℕ → List ℕ
+unfoldable pub challengeOut : (c : Challenge) (message : List ℕ) → List ℕ
 challengeOut c message = afterwards (challengeAnswer c message) message (challengeBytes c)

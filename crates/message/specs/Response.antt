@@ -7,26 +7,27 @@ use lib.Dec.{ltb}
 use Rattle.lists.specs.Lists.{pick, at, tab}
 use Rattle.field.specs.Field.{plus}
 use Rattle.bits.specs.Fields.{_wide_, pack}
+use Rattle.sizes.specs.Lengths.{seedLength, seedStart, sumAt, clearStart, tagAt}
 
 -- its first byte, for a node (document 01: box)
-abbrev pub responseHead : ℕ → List ℕ
+abbrev pub responseHead : (node : ℕ) → List ℕ
 responseHead node = pack ((4 wide 2) ∷ (3 wide node) ∷ (1 wide 0) ∷ [])
 
-unfoldable pub responseBytes : ℕ → ℕ → (ℕ → ℕ) → ℕ → (ℕ → ℕ) → List ℕ → ℕ → List ℕ
+unfoldable pub responseBytes : (n node : ℕ) (block : ℕ → ℕ) (tag : ℕ) (hidden : ℕ → ℕ) (seed : List ℕ) (total : ℕ) → List ℕ
 responseBytes n node block tag hidden seed total =
     responseHead node ++ (tab (n - 2) (λ e. plus (block e) (hidden e)) ++ (seed ++ (total ∷ block (n - 2) ∷ block (n - 1) ∷ tag ∷ [])))
 
 -- ---- its parts
 
 -- the n data elements: "masked bytes, then the two in clear"
-unfoldable pub dataIn : ℕ → List ℕ → ℕ → ℕ
-dataIn n response e = pick (ltb e (n - 2)) (at response (1 + e)) (at response (13 + e))
+unfoldable pub dataIn : (n : ℕ) (response : List ℕ) (e : ℕ) → ℕ
+dataIn n response e = pick (ltb e (n - 2)) (at response (1 + e)) (at response (clearStart n + (e - (n - 2))))
 
-unfoldable pub seedIn : ℕ → List ℕ → List ℕ
-seedIn n response = take 11 (drop (n - 1) response)
+unfoldable pub seedIn : (n : ℕ) (response : List ℕ) → List ℕ
+seedIn n response = take seedLength (drop (seedStart n) response)
 
-abbrev pub sumIn : ℕ → List ℕ → ℕ
-sumIn n response = at response (n + 10)
+abbrev pub sumIn : (n : ℕ) (response : List ℕ) → ℕ
+sumIn n response = at response (sumAt n)
 
-abbrev pub tagIn : ℕ → List ℕ → ℕ
-tagIn n response = at response (n + 13)
+abbrev pub tagIn : (n : ℕ) (response : List ℕ) → ℕ
+tagIn n response = at response (tagAt n)

@@ -12,23 +12,23 @@ use Rattle.field.specs.Field.{plus}
 use Rattle.bits.specs.Fields.{fieldAt}
 use Rattle.sizes.specs.Sizes.{nOutside}
 use Rattle.mask.specs.Masks.{maskRow, maskCoefficient, mask}
-use Rattle.sizes.specs.Lengths.{responseLength}
+use Rattle.sizes.specs.Lengths.{responseLength, keyLength, idLength}
 use Rattle.message.specs.Response.{dataIn, seedIn}
 
 -- Unmask "takes n, id, mask key and response, and writes n−2 bytes": "1, n; 2, a length; 9, first byte not kind 2, a box up to 5
 -- and a zero bit"
 
-unfoldable pub unmaskAnswer : ℕ → List ℕ → List ℕ → List ℕ → List ℕ → Outcome
+unfoldable pub unmaskAnswer : (n : ℕ) (id maskKey response out : List ℕ) → Outcome
 unmaskAnswer n id maskKey response out =
     refuse (nOutside n) Size
-    (refuse (anyOf (differs (length id) 8 ∷ differs (length maskKey) 32 ∷ differs (length response) (responseLength n) ∷ differs (length out) (n - 2) ∷ [])) Length
+    (refuse (anyOf (differs (length id) idLength ∷ differs (length maskKey) keyLength ∷ differs (length response) (responseLength n) ∷ differs (length out) (n - 2) ∷ [])) Length
     (refuse (anyOf (differs (fieldAt response 0 4) 2 ∷ ltb 5 (fieldAt response 4 3) ∷ differs (fieldAt response 7 1) 0 ∷ [])) Malformed
     Done))
 
 -- the mask for the response's own seed is taken off again
-unfoldable pub unmasked : ℕ → List ℕ → List ℕ → List ℕ → ℕ → ℕ
+unfoldable pub unmasked : (n : ℕ) (id maskKey response : List ℕ) (e : ℕ) → ℕ
 unmasked n id maskKey response e =
     plus (dataIn n response e) (mask n (maskCoefficient maskKey (seedIn n response)) (maskRow maskKey id) e)
 
-unfoldable pub unmaskOut : ℕ → List ℕ → List ℕ → List ℕ → List ℕ → List ℕ
+unfoldable pub unmaskOut : (n : ℕ) (id maskKey response out : List ℕ) → List ℕ
 unmaskOut n id maskKey response out = afterwards (unmaskAnswer n id maskKey response out) out (tab (n - 2) (unmasked n id maskKey response))

@@ -12,7 +12,7 @@ use Rattle.field.specs.Field.{plus}
 use Rattle.sizes.specs.declared.Sizes.{Sizes}
 use Rattle.vector.specs.Vectors.{product, mixed}
 use Rattle.mask.specs.Setup.{setupAnswer, setupOut}
-use Rattle.sizes.specs.Lengths.{responseLength, placeCount, blockLength, placeNumber, fileLength, paddingLength}
+use Rattle.sizes.specs.Lengths.{responseLength, placeCount, blockLength, placeNumber, fileLength, paddingLength, markCount, seedLength}
 use Rattle.message.specs.Response.{dataIn, sumIn, tagIn}
 use Rattle.message.specs.Challenge.{Challenge, challengeAnswer, challengeOut}
 use Rattle.audit.specs.Verdict.{verdictOf}
@@ -50,11 +50,11 @@ pub record Given : Type 0 where
   pub auxiliary-lent : List ℕ
   pub setup-done : setupAnswer tagKey maskKey id (z .n) auxiliary-lent ≡ Done
 
-abbrev pub setting : Given → Setting
+abbrev pub setting : (g : Given) → Setting
 setting g = record { z = g .z; id = g .id; file = g .file; padding = g .padding; tagKey = g .tagKey }
 
 -- "Setup's elements"
-abbrev pub givenAuxiliary : Given → List ℕ
+abbrev pub givenAuxiliary : (g : Given) → List ℕ
 givenAuxiliary g = setupOut (g .tagKey) (g .maskKey) (g .id) (g .z .n) (g .auxiliary-lent)
 
 -- an Encode that takes the one file, padding and tag key; its row is of bytes
@@ -80,7 +80,7 @@ pub record Honest (g : Given) (t : Table) : Type 0 where
   pub places-there : (j : ℕ) → j < length (c .places) → at (c .places) j < g .z .places
   pub places-filled : (j : ℕ) → j < length (c .places) → isFilled (t (c .node) (at (c .places) j)) ≡ true
   pub seed : List ℕ
-  pub seed-size : length seed ≡ 11
+  pub seed-size : length seed ≡ seedLength
   pub out : List ℕ
   pub out-size : length out ≡ responseLength (g .z .n)
 
@@ -134,13 +134,13 @@ pub record HoldsCoded (g : Given) (archive : List ℕ) (k : ℕ) (row : List ℕ
   pub tag : byteIn (g .z) archive k (blockLength (g .z)) ≡ product (blockLength (g .z)) (coded (g .z) (g .file) (g .padding) (at row)) (vector (setting g))
 
 -- some non-zero vector of m elements is orthogonal to every filled row of the table
-abbrev pub TableBlind : Sizes → Table → Type 0
+abbrev pub TableBlind : (z : Sizes) (t : Table) → Type 0
 TableBlind z t = Blind z (λ k. isFilled (numbered z t k)) (λ k. element (numbered z t k))
 
 pub record Demand (g : Given) (calls : List Call) (t : Table) (archive : List ℕ) : Type 0 where
   -- "All answers, fill marks and stored rows are those of document 01's row table"
   pub answers : archiveAnswers (openOut (g .z) (g .id) (g .lent)) calls ≡ tableAnswers (g .z) allEmpty calls
-  pub marks : (k : ℕ) → k < 48 → markAt archive k ≡ isFilled (numbered (g .z) t k)
+  pub marks : (k : ℕ) → k < markCount → markAt archive k ≡ isFilled (numbered (g .z) t k)
   pub rows : (node place : ℕ) (row : List ℕ) → node < g .z .nodes → place < g .z .places → t node place ≡ filled row
       → tab (g .z .m) (rowIn (g .z) archive (placeNumber (g .z) node place)) ≡ row
   -- "Inventory names exactly its filled places, each once, and their number"; "another length is 2". The number is the value that it hands

@@ -17,12 +17,12 @@ pub record Setting : Type 0 where
   pub padding : List ℕ
   pub tagKey : List ℕ
 
-abbrev pub vector : Setting → ℕ → ℕ
+abbrev pub vector : (s : Setting) → ℕ → ℕ
 vector s = keyVector (s .tagKey) (s .id)
 
 abbrev pub placeRecord : Setting → Place → ℕ → ℕ
 placeRecord s empty e = 0
 placeRecord s (filled row) e = codedRecord (s .z) (vector s) (s .file) (s .padding) (at row) e
 
-unfoldable pub image : Setting → Table → List ℕ
+unfoldable pub image : (s : Setting) (t : Table) → List ℕ
 image s t = archiveOf (s .z) (s .id) (λ k. isFilled (numbered (s .z) t k)) (λ k. placeRecord s (numbered (s .z) t k))

@@ -21,7 +21,7 @@ use Rattle.promise.specs.Image.{Setting, image}
 use Rattle.promise.specs.Worked as W
 
 -- n, m=2, M=1, N=3
-abbrev pub sizes : ℕ → Sizes
+abbrev pub sizes : (n : ℕ) → Sizes
 sizes n = record { n = n; m = 2; places = 1; nodes = 3 }
 
 -- boxes 0 and 2 filled

@@ -34,15 +34,15 @@ element empty i = 0
 element (filled row) i = at row i
 
 -- the place with number k, by node and then place; empty past the last
-unfoldable pub numbered : Sizes → Table → ℕ → Place
+unfoldable pub numbered : (z : Sizes) (t : Table) (k : ℕ) → Place
 numbered z t k = pick (ltb k (placeCount z)) (t (k / z .places) (k % z .places)) empty
 
 -- "Its answer is the first refusal below that its state, the sizes and the call's numbers and lengths call for (3 never), or else acceptance"
-abbrev pub tableAnswer : Sizes → Table → Call → Outcome
+abbrev pub tableAnswer : (z : Sizes) (t : Table) (c : Call) → Outcome
 tableAnswer z t c = answerFor z (λ node place. isFilled (t node place)) c
 
 -- "the sum over helpers i and repair blocks j of theta(i,j,k) times the sum over places l of gamma(i,j,l) times the helper's row l"
-unfoldable pub repairedRow : Sizes → Table → List ℕ → ℕ → List ℕ → List ℕ → ℕ → List ℕ
+unfoldable pub repairedRow : (z : Sizes) (t : Table) (helpers : List ℕ) (q : ℕ) (gammas thetas : List ℕ) (k : ℕ) → List ℕ
 repairedRow z t helpers q gammas thetas k = tab (z .m) (λ i. repairSum z helpers q gammas thetas k (λ node l. element (t node l) i))
 
 -- the table with new j at the j-th of `count` places of a node, from a place on
@@ -57,7 +57,7 @@ tableEffect z t (repair target helpers q gammas thetas scratch) =
     written target 0 (z .places) (λ k. filled (repairedRow z t helpers q gammas thetas k)) t
 
 -- "A refused call changes nothing"
-abbrev pub tableAfter : Sizes → Table → Call → Table
+abbrev pub tableAfter : (z : Sizes) (t : Table) (c : Call) → Table
 tableAfter z t c = afterwards (tableAnswer z t c) t (tableEffect z t c)
 
 abbrev pub tableAnswers : Sizes → Table → List Call → List Outcome

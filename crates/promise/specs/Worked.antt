@@ -40,7 +40,7 @@ padding = 0x01 ∷ 0x00 ∷ 0x00 ∷ 0x04 ∷ []
 abbrev pub row : ℕ → ℕ
 row = at (0x02 ∷ 0x03 ∷ [])
 
-abbrev pub maskRows : ℕ → ℕ → ℕ
+abbrev pub maskRows : (i e : ℕ) → ℕ
 maskRows i e = at (0x05 ∷ 0x09 ∷ []) i
 
 abbrev pub coefficients : ℕ → ℕ
@@ -54,7 +54,7 @@ abbrev pub seed : List ℕ
 seed = tab 11 (λ i. 0)
 
 -- a response of node 2 with these masked byte, mask sum, elements in clear and tag
-abbrev pub bytes : ℕ → ℕ → ℕ → ℕ → ℕ → List ℕ
+abbrev pub bytes : (masked total clear clear′ tag : ℕ) → List ℕ
 bytes masked total clear clear′ tag = 0x24 ∷ masked ∷ (seed ++ (total ∷ clear ∷ clear′ ∷ tag ∷ []))
 
 -- the row that the auditor has for the one place
@@ -62,7 +62,7 @@ abbrev pub combined : ℕ → ℕ
 combined = namedRow z (0x02 ∷ 0x03 ∷ []) challenge
 
 -- "Places holding b1 and that combination": boxes 0 and 2; and b1 alone
-abbrev pub header : ℕ → List ℕ
+abbrev pub header : (marks : ℕ) → List ℕ
 header marks = 0x10 ∷ 0x06 ∷ 0x21 ∷ 0x60 ∷ 1 ∷ 2 ∷ 3 ∷ 4 ∷ 5 ∷ 6 ∷ 7 ∷ 8 ∷ marks ∷ 0 ∷ 0 ∷ 0 ∷ 0 ∷ 0 ∷ []
 
 abbrev pub two : List ℕ

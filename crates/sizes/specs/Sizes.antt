@@ -6,11 +6,11 @@ use Rattle.lists.specs.Lists.{anyOf}
 use Rattle.answer.specs.Refusals.{outside}
 use Rattle.sizes.specs.declared.Sizes.{Sizes}
 
-abbrev pub nOutside : ℕ → Bool
+abbrev pub nOutside : (n : ℕ) → Bool
 nOutside n = outside 3 1024 n
 
-abbrev pub mOutside : ℕ → Bool
+abbrev pub mOutside : (m : ℕ) → Bool
 mOutside m = outside 1 16 m
 
-unfoldable pub sizesOutside : Sizes → Bool
+unfoldable pub sizesOutside : (z : Sizes) → Bool
 sizesOutside z = anyOf (nOutside (z .n) ∷ mOutside (z .m) ∷ outside 1 8 (z .places) ∷ outside 1 6 (z .nodes) ∷ [])

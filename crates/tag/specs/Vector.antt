@@ -8,15 +8,16 @@ use Rattle.answer.specs.declared.Outcome.the-variants.{Done}
 use Rattle.answer.specs.declared.Refusal.the-variants.{Size, Length}
 use Rattle.answer.specs.Refusals.{refuse, afterwards, differs}
 use Rattle.sizes.specs.Sizes.{nOutside, mOutside}
+use Rattle.sizes.specs.Lengths.{keyLength, idLength}
 use Rattle.tag.specs.KeyVector.{keyVector}
 
 -- "1, a size outside its range (Vector only); 2, a buffer of wrong length"
 
-unfoldable pub vectorAnswer : List ℕ → List ℕ → ℕ → ℕ → List ℕ → Outcome
+unfoldable pub vectorAnswer : (tagKey id : List ℕ) (n m : ℕ) (out : List ℕ) → Outcome
 vectorAnswer tagKey id n m out =
     refuse (anyOf (nOutside n ∷ mOutside m ∷ [])) Size
-    (refuse (anyOf (differs (length tagKey) 32 ∷ differs (length id) 8 ∷ differs (length out) (n + m) ∷ [])) Length
+    (refuse (anyOf (differs (length tagKey) keyLength ∷ differs (length id) idLength ∷ differs (length out) (n + m) ∷ [])) Length
     Done)
 
-unfoldable pub vectorOut : List ℕ → List ℕ → ℕ → ℕ → List ℕ → List ℕ
+unfoldable pub vectorOut : (tagKey id : List ℕ) (n m : ℕ) (out : List ℕ) → List ℕ
 vectorOut tagKey id n m out = afterwards (vectorAnswer tagKey id n m out) out (tab (n + m) (keyVector tagKey id))
