@@ -27,7 +27,7 @@ pub fn marked(s: &[u8], k: usize) -> bool
     requires { ⌜ (k < 48) × (18 ≤ length (now s)) ⌝ }
     ensures { λ r. ⌜ r ≡ markAt (now (s .entry)) k ⌝ }
 {
-    bits::read_field(s, 96 + k, 1) == 1
+    bits::read_field(s, sizes::FIRST_MARK + k, 1) == 1
 }
 
 // Whether a mark is set that belongs to none of the first `count` places.
@@ -35,7 +35,7 @@ fn any_spare_mark(s: &[u8], count: usize) -> bool
     requires { ⌜ 18 ≤ length (now s) ⌝ }
     ensures { λ r. ⌜ r ≡ anyBelow 48 (λ k. pick (leb count k) (markAt (now (s .entry)) k) false) ⌝ }
 {
-    for k in 0..48 {
+    for k in 0..sizes::MARK_COUNT {
         if (count <= k) & marked(s, k) {
             return true;
         }
@@ -47,7 +47,7 @@ fn any_spare_mark(s: &[u8], count: usize) -> bool
 pub fn bad_archive(s: &[u8]) -> bool
     ensures { λ r. ⌜ r ≡ badArchive (now (s .entry)) ⌝ }
 {
-    if s.len() < 18 {
+    if s.len() < sizes::HEADER_LENGTH {
         return true;
     }
     let z = sizes_in(s);

@@ -12,10 +12,10 @@ fn mark_with(s: &[u8], k: usize, count: usize, v: bool, i: usize) -> usize
     ensures { λ r. ⌜ r ≡ bit (over k count (λ j. v) (markAt (now (s .entry))) i) ⌝ }
 {
     if i < k {
-        return bits::read_field(s, 96 + i, 1);
+        return bits::read_field(s, sizes::FIRST_MARK + i, 1);
     }
     if k + count <= i {
-        return bits::read_field(s, 96 + i, 1);
+        return bits::read_field(s, sizes::FIRST_MARK + i, 1);
     }
     if v { 1 } else { 0 }
 }
@@ -39,6 +39,6 @@ pub fn set_marks(s: &mut [u8], k: usize, count: usize, v: bool)
 {
     for j in 0..6 {
         let byte = mark_byte(s, k, count, v, j);
-        s[12 + j] = byte;
+        s[sizes::MARKS_START + j] = byte;
     }
 }

@@ -17,7 +17,7 @@ fn open_check(z: Sizes, id: &[u8], archive: &[u8]) -> Outcome
     if sizes::sizes_outside(z) {
         return Outcome::Refused(Refusal::Size);
     }
-    if (id.len() != 8) | (archive.len() != archive_length(z)) {
+    if (id.len() != sizes::ID_LENGTH) | (archive.len() != archive_length(z)) {
         return Outcome::Refused(Refusal::Length);
     }
     Outcome::Done
@@ -34,7 +34,7 @@ fn write_new(z: Sizes, id: &[u8], archive: &mut [u8])
     bits::write_field(archive, 15, 5, z.m);
     bits::write_field(archive, 20, 4, z.places);
     bits::write_field(archive, 24, 3, z.nodes);
-    lists::store(id, 0, archive, 4, 8);
+    lists::store(id, 0, archive, sizes::ID_START, sizes::ID_LENGTH);
 }
 
 // A new archive of n, m, places a node and nodes (document 01: M places a box, N boxes).

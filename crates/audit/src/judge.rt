@@ -49,10 +49,10 @@ fn verdict_check(
     if malformed(message) {
         return Outcome::Refused(Refusal::Malformed);
     }
-    if (tag_key.len() != 32)
-        | (id.len() != 8)
+    if (tag_key.len() != sizes::KEY_LENGTH)
+        | (id.len() != sizes::ID_LENGTH)
         | (rows.len() != z.places * z.m)
-        | (response.len() != z.n + 14)
+        | (response.len() != z.n + sizes::RESPONSE_PAST_N)
     {
         return Outcome::Refused(Refusal::Length);
     }
@@ -92,12 +92,12 @@ fn agrees(
     let clear = vector::product_of(
         powers,
         logs,
-        &response[n + 11..n + 13],
+        &response[n + sizes::CLEAR_PAST_N..n + sizes::TAG_PAST_N],
         &vector[n - 2..n],
         2,
     );
     let tail = linear::dot(powers, logs, row, &vector[n..n + z.m], z.m);
-    masked ^ clear ^ tail == response[n + 13] ^ response[n + 10]
+    masked ^ clear ^ tail == response[n + sizes::TAG_PAST_N] ^ response[n + sizes::SUM_PAST_N]
 }
 
 // The judgement where nothing is refused.

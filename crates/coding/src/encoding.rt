@@ -41,7 +41,7 @@ fn encode_check(
     let z = sizes_in(archive);
     if (file.len() != z.m * (z.n - 2))
         | (padding.len() != 2 * z.m)
-        | (tag_key.len() != 32)
+        | (tag_key.len() != sizes::KEY_LENGTH)
         | (row.len() != z.m)
     {
         return Outcome::Refused(Refusal::Length);

@@ -211,13 +211,13 @@ pub fn block(key: &[u8], counter: u32, nonce: &[u8], out: &mut [u8]) -> Outcome
     ensures answer { λ r. ⌜ r ≡ blockAnswer (now (key .entry)) (now (nonce .entry)) (now (out .entry)) ⌝ }
     ensures output { λ _. ⌜ now (out .exit) ≡ blockOut (now (key .entry)) counter (now (nonce .entry)) (now (out .entry)) ⌝ }
 {
-    if key.len() != 32 {
+    if key.len() != sizes::KEY_LENGTH {
         return Outcome::Refused(Refusal::Length);
     }
-    if nonce.len() != 12 {
+    if nonce.len() != sizes::NONCE_LENGTH {
         return Outcome::Refused(Refusal::Length);
     }
-    if out.len() != 64 {
+    if out.len() != sizes::STREAM_BLOCK_LENGTH {
         return Outcome::Refused(Refusal::Length);
     }
     spread(block_words(start_state(key, counter, nonce)), out, 0);

@@ -40,7 +40,11 @@ fn setup_check(tag_key: &[u8], mask_key: &[u8], id: &[u8], n: usize, out: &[u8])
     if answer::outside(3, 1024, n) {
         return Outcome::Refused(Refusal::Size);
     }
-    if (tag_key.len() != 32) | (mask_key.len() != 32) | (id.len() != 8) | (out.len() != n - 1) {
+    if (tag_key.len() != sizes::KEY_LENGTH)
+        | (mask_key.len() != sizes::KEY_LENGTH)
+        | (id.len() != sizes::ID_LENGTH)
+        | (out.len() != n - 1)
+    {
         return Outcome::Refused(Refusal::Length);
     }
     if !any_element(tag_key, id, n - 2) {

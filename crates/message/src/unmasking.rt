@@ -15,9 +15,9 @@ fn unmask_check(n: usize, id: &[u8], mask_key: &[u8], response: &[u8], out: &[u8
     if answer::outside(3, 1024, n) {
         return Outcome::Refused(Refusal::Size);
     }
-    if (id.len() != 8)
-        | (mask_key.len() != 32)
-        | (response.len() != n + 14)
+    if (id.len() != sizes::ID_LENGTH)
+        | (mask_key.len() != sizes::KEY_LENGTH)
+        | (response.len() != n + sizes::RESPONSE_PAST_N)
         | (out.len() != n - 2)
     {
         return Outcome::Refused(Refusal::Length);
@@ -40,7 +40,7 @@ fn unmask_into(n: usize, id: &[u8], mask_key: &[u8], response: &[u8], out: &mut 
     mask::add_mask(
         tag::key_array(mask_key),
         id,
-        &response[n - 1..n + 10],
+        &response[n - 1..n + sizes::SUM_PAST_N],
         n,
         out,
         0,

@@ -51,10 +51,10 @@ fn prove_check(
         return Outcome::Refused(Refusal::Malformed);
     }
     let z = sizes_in(archive);
-    if (mask_key.len() != 32)
+    if (mask_key.len() != sizes::KEY_LENGTH)
         | (auxiliary.len() != z.n - 1)
-        | (seed.len() != 11)
-        | (response.len() != z.n + 14)
+        | (seed.len() != sizes::SEED_LENGTH)
+        | (response.len() != z.n + sizes::RESPONSE_PAST_N)
     {
         return Outcome::Refused(Refusal::Length);
     }
@@ -105,10 +105,10 @@ fn write_parts(
     response[0] = message::head_byte(node);
     lists::store(combined, 0, response, 1, n - 2);
     mask::add_mask(key, id, seed, n, response, 1);
-    lists::store(seed, 0, response, n - 1, 11);
-    response[n + 10] = mask::mask_sum(key, seed, n, auxiliary);
-    lists::store(combined, n - 2, response, n + 11, 2);
-    response[n + 13] = combined[n + m];
+    lists::store(seed, 0, response, n - 1, sizes::SEED_LENGTH);
+    response[n + sizes::SUM_PAST_N] = mask::mask_sum(key, seed, n, auxiliary);
+    lists::store(combined, n - 2, response, n + sizes::CLEAR_PAST_N, 2);
+    response[n + sizes::TAG_PAST_N] = combined[n + m];
 }
 
 // The combined record of the named places under the mask of the seed.

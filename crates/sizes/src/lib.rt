@@ -5,6 +5,36 @@ ghost use Prim.Native.Nat.{_<_, _≤_};
 ghost use Rattle.sizes.specs.Sizes.{sizesOutside};
 ghost use Rattle.sizes.specs.Lengths.{recordLength, archiveLength, recordStart};
 
+// The lengths and offsets of specs/Lengths.antt that no size changes, under the same names.
+pub const KEY_LENGTH: usize = 32;
+
+pub const NONCE_LENGTH: usize = 12;
+
+pub const STREAM_BLOCK_LENGTH: usize = 64;
+
+pub const ID_LENGTH: usize = 8;
+
+pub const SEED_LENGTH: usize = 11;
+
+pub const ID_START: usize = 4;
+
+pub const MARKS_START: usize = 12;
+
+pub const HEADER_LENGTH: usize = 18;
+
+pub const FIRST_MARK: usize = 96;
+
+pub const MARK_COUNT: usize = 48;
+
+// How far past n the parts of a response stand, and its length.
+pub const SUM_PAST_N: usize = 10;
+
+pub const CLEAR_PAST_N: usize = 11;
+
+pub const TAG_PAST_N: usize = 13;
+
+pub const RESPONSE_PAST_N: usize = 14;
+
 // n, m, the places of a node and the nodes. Document 01: n, m, M (places a box), N (boxes).
 pub struct Sizes {
     pub n: usize,
@@ -36,7 +66,7 @@ pub fn archive_length(z: Sizes) -> usize
     requires { ⌜ sizesOutside z ≡ false ⌝ }
     ensures { λ r. ⌜ r ≡ archiveLength z ⌝ }
 {
-    18 + z.nodes * z.places * record_length(z)
+    HEADER_LENGTH + z.nodes * z.places * record_length(z)
 }
 
 // Where the record of place number k starts.
@@ -44,5 +74,5 @@ pub fn record_start(z: Sizes, k: usize) -> usize
     requires { ⌜ (sizesOutside z ≡ false) × (k < 48) ⌝ }
     ensures { λ r. ⌜ r ≡ recordStart z k ⌝ }
 {
-    18 + k * record_length(z)
+    HEADER_LENGTH + k * record_length(z)
 }

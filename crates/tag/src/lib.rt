@@ -89,7 +89,10 @@ fn vector_check(tag_key: &[u8], id: &[u8], n: usize, m: usize, out: &[u8]) -> Ou
     if answer::outside(3, 1024, n) | answer::outside(1, 16, m) {
         return Outcome::Refused(Refusal::Size);
     }
-    if (tag_key.len() != 32) | (id.len() != 8) | (out.len() != n + m) {
+    if (tag_key.len() != sizes::KEY_LENGTH)
+        | (id.len() != sizes::ID_LENGTH)
+        | (out.len() != n + m)
+    {
         return Outcome::Refused(Refusal::Length);
     }
     Outcome::Done
