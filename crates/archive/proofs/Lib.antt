@@ -1,4 +1,5 @@
 pub mod LayoutLaws
+pub mod IdLaws
 pub mod GoodArchiveLaws
 pub mod BadArchiveLaws
 pub mod MarkLaws

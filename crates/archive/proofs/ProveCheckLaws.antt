@@ -1,10 +1,10 @@
 -- Prove's answer as its check finds it, and what it tells. Assumes nothing.
 use Prim.Native.Nat.{ℕ, _+_, _-_, _<_}
-use mathlib.Core.Path.{_≡_, refl, sym, ap, _∙_}
+use mathlib.Core.Path.{_≡_, sym, _∙_}
 use mathlib.Core.Bool.{Bool, false, _||_}
 use mathlib.Core.List.{List, [], _∷_}
 use native.Mathlib.Omega.{arith}
-use lib.ListN.{length, take, drop}
+use lib.ListN.{length}
 use Rattle.lists.specs.Lists.{at, anyOf}
 use Rattle.lists.proofs.AnyLaws.{any-first, any-rest, any-four}
 use Rattle.answer.specs.declared.Outcome.{Outcome}
@@ -18,7 +18,7 @@ use Rattle.message.proofs.ResponseLaws.{response-same}
 use Rattle.message.specs.Challenge.{challengeOf, malformedChallenge, notThere}
 use Rattle.archive.specs.Layout.{sizesOf, idOf, badArchive}
 use Rattle.archive.specs.Prove.{proveFor, proveAnswer, responseFor, namedByte, provedFor, proveOut}
-use Rattle.archive.proofs.GoodArchiveLaws.{good-sizes, good-id}
+use Rattle.archive.proofs.GoodArchiveLaws.{good-sizes}
 
 module _ (s maskKey elements seed message out : List ℕ) where
   -- the test of lengths, over the sizes that were read
@@ -67,13 +67,6 @@ module _ (s maskKey elements seed message out : List ℕ) where
     prove-kept e = sym (after-refused _ _ (sym answer ∙ e))
 
 -- the part of an archive that is its id
-pub id-read : (s : List ℕ) → take 8 (drop 4 s) ≡ idOf s
-unfolding idOf
-id-read s = refl
-
-pub id-part : (s : List ℕ) → badArchive s ≡ false → length (take 8 (drop 4 s)) ≡ 8
-id-part s good = ap length (id-read s) ∙ good-id s good
-
 -- the response for the combined records of the named places
 pub proved-is : (s maskKey elements seed message combined : List ℕ) {sizes : Sizes} {node : ℕ} {key id w : List ℕ} → badArchive s ≡ false → sizes ≡ sizesOf s
     → node ≡ challengeOf message .node → key ≡ maskKey → id ≡ idOf s

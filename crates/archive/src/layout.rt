@@ -5,7 +5,8 @@ ghost use Prim.Native.Nat.{_+_, _*_, _<_, _≤_};
 ghost use lib.ListN.{length};
 ghost use lib.Dec.{leb};
 ghost use Rattle.lists.specs.Lists.{pick, anyBelow};
-ghost use Rattle.archive.specs.Layout.{sizesOf, markAt, badArchive};
+ghost use Rattle.sizes.specs.Lengths.{marksStart};
+ghost use Rattle.archive.specs.Layout.{sizesOf, idOf, markAt, badArchive};
 use sizes::Sizes;
 use sizes::archive_length;
 
@@ -20,6 +21,16 @@ pub fn sizes_in(s: &[u8]) -> Sizes
         places: bits::read_field(s, 20, 4),
         nodes: bits::read_field(s, 24, 3),
     }
+}
+
+// The id in a header.
+pub fn id_in(s: &[u8]) -> [u8; 8]
+    requires { ⌜ marksStart ≤ length (now s) ⌝ }
+    ensures { λ r. ⌜ r ≡ idOf (now (s .entry)) ⌝ }
+{
+    let mut id = [0u8; 8];
+    lists::store(s, sizes::ID_START, &mut id, 0, sizes::ID_LENGTH);
+    id
 }
 
 // Whether place number k is marked as filled.

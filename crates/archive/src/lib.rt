@@ -7,6 +7,7 @@ mod opening;
 
 ghost use Rattle.archive.specs.Repaired.{RepairedRows};
 pub use layout::bad_archive;
+pub use layout::id_in;
 pub use layout::marked;
 pub use layout::sizes_in;
 pub use listing::inventory;

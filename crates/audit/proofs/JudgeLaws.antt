@@ -2,7 +2,7 @@
 use Prim.Native.Nat.{ℕ, _+_, _-_, _*_, _<_, _≤_}
 use mathlib.Core.Path.{_≡_, sym, ap, ap₂, _∙_}
 use mathlib.Core.Bool.{Bool, false}
-use mathlib.Core.List.{List, _∷_}
+use mathlib.Core.List.{List}
 use mathlib.Core.Logic.{⊎-elim}
 use native.Mathlib.Omega.{arith}
 use lib.Dec.{eqb}
@@ -11,13 +11,13 @@ use lib.Seq.{getD-take, getD-drop}
 use borrow.Author.Tests.{lt-ltb, le-ltb}
 use Rattle.lists.specs.Lists.{pick, at, put}
 use Rattle.lists.proofs.TabLaws.{order}
+use Rattle.lists.proofs.PutLaws.{put-front}
 use Rattle.lists.proofs.AnyLaws.{any-first, any-rest}
 use Rattle.answer.specs.declared.Refusal.{Refusal}
 use Rattle.answer.specs.declared.Outcome.{Outcome}
 use Rattle.answer.specs.declared.Outcome.the-variants.{Done, Refused as RefusedOutcome}
 use Rattle.answer.proofs.RefusalLaws.{accepted, same}
 use Rattle.field.specs.Field.{plus}
-use Rattle.keystream.specs.Draws.{byteAt}
 use Rattle.sizes.specs.declared.Sizes.{Sizes}
 use Rattle.sizes.specs.Sizes.{sizesOutside}
 use Rattle.tag.specs.KeyVector.{keyVector}
@@ -30,7 +30,6 @@ use Rattle.linear.specs.PrivateRows.{kept}
 use Rattle.linear.proofs.KeptLaws.{row-stored, kept-same, kept-at}
 use Rattle.sizes.specs.Lengths.{responseLength}
 use Rattle.message.specs.Response.{dataIn, sumIn, tagIn}
-use Rattle.mask.proofs.MaskRowLaws.{vector-filled}
 use Rattle.message.specs.Challenge.{Challenge, challengeOf, malformedChallenge, notThere}
 use Rattle.audit.specs.Verdict.{verdictFor, namedRow, appended, accepts, judgement, verdictOf}
 use Rattle.audit.specs.declared.Judgement.the-variants.{Accepted, Rejected, Refused}
@@ -145,15 +144,14 @@ module _ (key id : List ℕ) (z : Sizes) (rows message response : List ℕ) wher
         there = accepted _ _ _ (three .1) .0;
       }
 
-  pub verdict-judged : answer ≡ Done → (before : List ℕ) (count : ℕ) (b : Bool) {k nonce vector : List ℕ} {row : Row} {t : Bool}
-      → k ≡ key → nonce ≡ 1 ∷ 0 ∷ 0 ∷ 0 ∷ id → z .n + z .m ≤ 64 * count → 64 * count ≤ length before
-      → vector ≡ put (64 * count) 0 (byteAt k nonce) before
+  pub verdict-judged : answer ≡ Done → (before : List ℕ) (count : ℕ) (b : Bool) {vector : List ℕ} {row : Row} {t : Bool}
+      → z .n + z .m ≤ 64 * count → 64 * count ≤ length before → vector ≡ put (64 * count) 0 (keyVector key id) before
       → row ≡ kept (z .m) (namedRow z rows (challengeOf message)) → t ≡ accepts z (at vector) (at (row .bytes)) response → t ≡ b
       → pick b Accepted Rejected ≡ verdictOf key id z rows message response
   unfolding verdictOf judgement
-  verdict-judged e before count b {k} {nonce} {vector} p q enough fits filled named w tested =
+  verdict-judged e before count b {vector} enough fits filled named w tested =
       let elements : (i : ℕ) → i < z .n + z .m → at vector i ≡ keyVector key id i =
-      λ i l. vector-filled k nonce count i before fits filled (omega arith) id q ∙ ap (λ (x : List ℕ). keyVector x id i) p in
+      λ i l. ap (λ (s : List ℕ). at s i) filled ∙ put-front (64 * count) (keyVector key id) before i (omega arith) fits in
       let row-is = kept-at (z .m) _ (ranged z (verdict-tells e .sized) .m-high) named in
       let same = accepts-same z _ (keyVector key id) _ (namedRow z rows (challengeOf message)) response elements row-is in
       rw (e, ← same, ← w, tested)

@@ -117,12 +117,7 @@ fn judged(
     let logs = pair.logs;
     let row = named_row(&powers, &logs, z, rows, message);
     let mut vector = [0u8; 1088];
-    keystream::fill(
-        tag::key_array(tag_key),
-        tag::id_nonce(1, 0, 0, 0, id),
-        &mut vector,
-        (z.n + z.m) / 64 + 1,
-    );
+    tag::key_vector_into(tag_key, id, &mut vector, (z.n + z.m) / 64 + 1);
     if agrees(&powers, &logs, z, row, response, &vector) {
         Judgement::Accepted
     } else {

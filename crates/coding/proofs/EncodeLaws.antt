@@ -7,7 +7,7 @@ use mathlib.Core.Logic.{⊎-elim}
 use native.Mathlib.Nat.{mul-le-mul}
 use native.Mathlib.Omega.{arith}
 use lib.Dec.{leb}
-use lib.ListN.{length, set, take, drop}
+use lib.ListN.{length, set}
 use borrow.Author.Tests.{lt-ltb, le-ltb, leb-false}
 use Rattle.lists.specs.Lists.{at, put, grid, over, anyOf}
 use Rattle.lists.proofs.TabLaws.{order}
@@ -18,12 +18,12 @@ use Rattle.answer.proofs.RefusalLaws.{accepted, same}
 use Rattle.field.specs.Field.{plus}
 use Rattle.field.proofs.SumLaws.{sum-same}
 use Rattle.keystream.specs.declared.stream.Stream.{Stream}
-use Rattle.keystream.specs.PrivateStream.{fresh, drawn, after}
+use Rattle.keystream.specs.PrivateStream.{drawn, after}
 use Rattle.sizes.specs.declared.Sizes.{Sizes}
 use Rattle.vector.specs.Vectors.{product, mixed, added}
 use Rattle.tag.specs.KeyVector.{keyVector, withTag}
 use Rattle.sizes.proofs.SizeLaws.{Ranged}
-use Rattle.tag.proofs.StreamLaws.{key-drawn}
+use Rattle.tag.specs.PrivateKeyStream.{GivesKeyVector}
 use Rattle.vector.proofs.VectorLaws.{mixed-same, product-same, product-keys}
 use Rattle.vector.proofs.AddedLaws.{length-added, added-at, added-below, added-above}
 use Rattle.linear.specs.declared.rows.Row.{Row}
@@ -194,17 +194,13 @@ withTag-tag : (len : ℕ) (vector block : ℕ → ℕ) → withTag len vector bl
 unfolding withTag
 withTag-tag len vector block = rw (le-ltb len len (omega arith))
 
--- a block is written, and behind it its product with F1's stream
-module _ (len start : ℕ) (block : ℕ → ℕ) (key id d : List ℕ) {k nonce w : List ℕ} {v : Stream} {tag : ℕ} (fits : start + len ≤ length d)
-    (keys : k ≡ key) (ids : nonce ≡ 1 ∷ 0 ∷ 0 ∷ 0 ∷ id) (stream : v ≡ fresh k nonce)
-    (blocks : w ≡ put len start block d)
+-- a block is written, and behind it its product with the stream that gives the key vector
+module _ (len start : ℕ) (block : ℕ → ℕ) (key id d : List ℕ) {w : List ℕ} (v : Stream) {tag : ℕ} (fits : start + len ≤ length d)
+    (gives : GivesKeyVector key id v) (blocks : w ≡ put len start block d)
     (tags : tag ≡ product len (λ e. at w (start + e)) (λ e. drawn (after e v) .byte)) where
-  drawn-key : (e : ℕ) → drawn (after e v) .byte ≡ keyVector key id e
-  drawn-key e = rw (stream, keys, ids) (key-drawn key id e refl refl .0)
-
   tag-is : tag ≡ product len block (keyVector key id)
   tag-is =
-      tags ∙ product-keys len _ _ (keyVector key id) (λ e h. drawn-key e)
+      tags ∙ product-keys len _ _ (keyVector key id) (λ e h. gives e)
       ∙ product-same len _ block (keyVector key id) (λ e h. rw blocks (put-at len start block d e h fits))
 
   record-written : set w (start + len) tag ≡ put (len + 1) start (withTag len (keyVector key id) block) d
@@ -226,19 +222,19 @@ encode-effect z s node place file padding key row =
     rw first
 
 -- the steps of the code: the sizes read, the marks set, the block written, the tag stored
-pub place-filled : (z : Sizes) (s : List ℕ) (node place : ℕ) (file padding key row : List ℕ) {k nonce u w : List ℕ} {v : Stream} {r : Row} {start tag : ℕ}
+pub place-filled : (z : Sizes) (s : List ℕ) (node place : ℕ) (file padding key row : List ℕ) {i u w : List ℕ} (v : Stream) {r : Row} {start tag : ℕ}
     → z ≡ sizesOf s → Encodable z s node place file padding key row → start ≡ recordStart z (placeNumber z node place)
-    → k ≡ key → nonce ≡ 1 ∷ 0 ∷ 0 ∷ 0 ∷ take 8 (drop 4 s) → v ≡ fresh k nonce
+    → i ≡ idOf s → GivesKeyVector key i v
     → u ≡ withMarks (over (placeNumber z node place) 1 (λ i. true) (markAt s)) s
     → r ≡ kept (z .m) (λ i. at row (0 + i)) → w ≡ put (blockLength z) start (coded z file padding (at (r .bytes))) u
     → tag ≡ product (blockLength z) (λ e. at w (start + e)) (λ e. drawn (after e v) .byte)
     → set w (start + z .n + z .m) tag ≡ effectFor (sizesOf s) (idOf s) s (encode node place file padding key row)
-unfolding idOf codedRecord
-place-filled z s node place file padding key row {u = u} {start = start} read ok starts keys ids stream marks rows blocks tags =
+unfolding codedRecord
+place-filled z s node place file padding key row {u = u} v {start = start} read ok starts ids gives marks rows blocks tags =
     let end : start + z .n + z .m ≡ start + (z .n + z .m) = omega arith in
     let long : length u ≡ length s = ap length marks ∙ length-marks _ s in
     let written = blocks ∙ put-same (blockLength z) start _ _ u (λ e h. kept-coded z file padding row (ok .sizes .m-high) rows e) in
-    rw end (record-written (blockLength z) start (coded z file padding (at row)) key (idOf s) u (omega (arith, ok .fits)) keys ids stream written tags)
+    rw end (record-written (blockLength z) start (coded z file padding (at row)) key (idOf s) u v (omega (arith, ok .fits)) (rw ids at gives) written tags)
     ∙ ap₂ (λ (from : ℕ) (d : List ℕ). put (recordLength z) from (codedRecord z (keyVector key (idOf s)) file padding (at row)) d) starts marks
     ∙ encode-effect z s node place file padding key row
     ∙ ap (λ (x : Sizes). effectFor x (idOf s) s (encode node place file padding key row)) read

@@ -15,10 +15,10 @@ ghost use Rattle.archive.specs.Calls.{archiveAnswer, effectFor, archiveAfter};
 use answer::Outcome;
 use answer::Refusal;
 use archive::bad_archive;
+use archive::id_in;
 use archive::marked;
 use archive::set_marks;
 use archive::sizes_in;
-use keystream::Stream;
 use linear::Row;
 use sizes::Sizes;
 use sizes::record_start;
@@ -122,10 +122,8 @@ fn fill_place(
     let k = node * z.places + place;
     let start = record_start(z, k);
     let kept = linear::row_from(row, 0, z.m);
-    let vector = Stream::new(
-        tag::key_array(tag_key),
-        tag::id_nonce(1, 0, 0, 0, &archive[4..12]),
-    );
+    let id = id_in(archive);
+    let vector = tag::key_stream(tag_key, &id);
     set_marks(archive, k, 1, true);
     write_block(&powers, &logs, z, file, padding, kept, archive, start);
     let tag = tag::product_drawn(&powers, &logs, archive, start, z.n + z.m, vector);

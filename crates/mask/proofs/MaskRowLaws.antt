@@ -1,4 +1,4 @@
--- Mask rows and key elements in a buffer, and the loops over all mask rows. Assumes nothing.
+-- Mask rows in a buffer. Assumes nothing.
 use Prim.Native.Nat.{ℕ, _+_, _-_, _*_, _/_, _%_, _<_, _≤_}
 use mathlib.Core.Path.{_≡_, refl, ap, _∙_}
 use mathlib.Core.List.{List, _∷_}
@@ -7,7 +7,6 @@ use lib.ListN.{length}
 use Rattle.lists.specs.Lists.{at, put}
 use Rattle.lists.proofs.PutLaws.{put-front}
 use Rattle.keystream.specs.Draws.{byteAt}
-use Rattle.tag.specs.KeyVector.{F1, keyVector}
 use Rattle.mask.specs.Masks.{F2, maskRow}
 
 -- a buffer that was filled with the blocks of a stream
@@ -19,7 +18,3 @@ module _ (key : List ℕ) (nonce : List ℕ) (count e : ℕ) (before : List ℕ)
   pub row-filled : (id : List ℕ) (i : ℕ) → nonce ≡ 2 ∷ 0 ∷ (i + 1) / 256 % 256 ∷ (i + 1) % 256 ∷ id → at out e ≡ maskRow key id i e
   unfolding maskRow F2
   row-filled id i p = let q : e + 1 - 1 ≡ e = omega arith in stream-filled ∙ rw (p, q) refl
-
-  pub vector-filled : (id : List ℕ) → nonce ≡ 1 ∷ 0 ∷ 0 ∷ 0 ∷ id → at out e ≡ keyVector key id e
-  unfolding keyVector F1
-  vector-filled id p = let q : e + 1 - 1 ≡ e = omega arith in stream-filled ∙ rw (p, q) refl

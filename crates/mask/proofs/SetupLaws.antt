@@ -1,11 +1,12 @@
 -- What Setup's answer tells, what is written then, and the mask as its coefficients are drawn. Assumes nothing.
 use Prim.Native.Nat.{ℕ, _+_, _-_, _*_, _<_, _≤_}
-use mathlib.Core.Path.{_≡_, sym, ap₂, _∙_}
+use mathlib.Core.Path.{_≡_, sym, _∙_, ap}
 use mathlib.Core.List.{List, _∷_}
 use native.Mathlib.Omega.{arith}
 use lib.ListN.{length}
 use Rattle.lists.specs.Lists.{at, put}
 use Rattle.lists.proofs.TabLaws.{tab-same}
+use Rattle.lists.proofs.PutLaws.{put-front}
 use Rattle.lists.proofs.AnyLaws.{any-first, any-rest}
 use Rattle.answer.specs.declared.Outcome.{Outcome}
 use Rattle.answer.specs.declared.Outcome.the-variants.{Done, Refused}
@@ -13,7 +14,6 @@ use Rattle.answer.specs.declared.Refusal.{Refusal}
 use Rattle.answer.proofs.RefusalLaws.{accepted, same, inside, after-done, after-refused}
 use Rattle.field.proofs.SumLaws.{sum-same}
 use Rattle.field.proofs.TimesLaws.{times-comm}
-use Rattle.keystream.specs.Draws.{byteAt}
 use Rattle.keystream.specs.PrivateStream.{fresh, drawn, after}
 use Rattle.keystream.specs.declared.stream.Stream.{Stream}
 use Rattle.keystream.proofs.DrawLaws.{draws-in-order}
@@ -23,7 +23,6 @@ use Rattle.vector.proofs.VectorLaws.{mixed-same, product-keys}
 use Rattle.vector.proofs.AddedLaws.{added-same}
 use Rattle.mask.specs.Masks.{F3, maskRow, maskCoefficient, auxiliary, mask, maskSum}
 use Rattle.mask.specs.Setup.{setupAnswer, setupOut}
-use Rattle.mask.proofs.MaskRowLaws.{vector-filled}
 
 -- ---- Setup
 
@@ -52,12 +51,13 @@ unfolding auxiliary
 auxiliary-same n v v′ rows h = tab-same (n - 1) _ _ (λ i l. product-keys (n - 2) (rows i) v v′ h)
 
 -- the elements over a buffer that F1's stream filled
-pub auxiliary-of : (n : ℕ) (tagKey maskKey id before : List ℕ) {key hidden nonce vector out : List ℕ} → key ≡ tagKey → nonce ≡ 1 ∷ 0 ∷ 0 ∷ 0 ∷ id → hidden ≡ maskKey
-    → length before ≡ 1024 → vector ≡ put (64 * 16) 0 (byteAt key nonce) before → n ≤ 1024 → out ≡ auxiliary n (at vector) (maskRow hidden id)
+pub auxiliary-of : (n : ℕ) (tagKey maskKey id before : List ℕ) {hidden vector out : List ℕ} → hidden ≡ maskKey → length before ≡ 1024
+    → vector ≡ put (64 * 16) 0 (keyVector tagKey id) before → n ≤ 1024 → out ≡ auxiliary n (at vector) (maskRow hidden id)
     → out ≡ auxiliary n (keyVector tagKey id) (maskRow maskKey id)
-auxiliary-of n tagKey maskKey id before {key} {hidden} {nonce} {vector} p q r l f high e =
-    e ∙ auxiliary-same n (at vector) (keyVector key id) (maskRow hidden id) (λ i h. vector-filled key nonce 16 i before (omega arith) f (omega arith) id q)
-    ∙ ap₂ (λ (a b : List ℕ). auxiliary n (keyVector a id) (maskRow b id)) p r
+auxiliary-of n tagKey maskKey id before {hidden} {vector} r l f high e =
+    e ∙ auxiliary-same n (at vector) (keyVector tagKey id) (maskRow hidden id)
+    (λ i h. ap (λ (s : List ℕ). at s i) f ∙ put-front (64 * 16) (keyVector tagKey id) before i (omega arith) (omega arith))
+    ∙ ap (λ (k : List ℕ). auxiliary n (keyVector tagKey id) (maskRow k id)) r
 
 -- ---- the mask
 

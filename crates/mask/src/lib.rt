@@ -12,7 +12,6 @@ ghost use Rattle.mask.specs.Setup.{setupAnswer, setupOut};
 ghost use Rattle.mask.specs.Laws.{MaskSums};
 use answer::Outcome;
 use answer::Refusal;
-use keystream::Stream;
 pub use rows::add_mask;
 pub use rows::mask_sum;
 
@@ -21,7 +20,7 @@ fn any_element(tag_key: &[u8], id: &[u8], len: usize) -> bool
     requires { ⌜ (length (now «tag_key») ≡ 32) × (length (now id) ≡ 8) ⌝ }
     ensures { λ r. ⌜ r ≡ anyBelow len (λ e. differs (keyVector (now («tag_key» .entry)) (now (id .entry)) e) 0) ⌝ }
 {
-    let mut s = Stream::new(tag::key_array(tag_key), tag::id_nonce(1, 0, 0, 0, id));
+    let mut s = tag::key_stream(tag_key, id);
     for _ in 0..len {
         let d = s.next();
         if d.byte != 0 {
@@ -62,12 +61,7 @@ fn setup_into(tag_key: &[u8], mask_key: &[u8], id: &[u8], n: usize, out: &mut [u
     let powers = pair.powers;
     let logs = pair.logs;
     let mut vector = [0u8; 1024];
-    keystream::fill(
-        tag::key_array(tag_key),
-        tag::id_nonce(1, 0, 0, 0, id),
-        &mut vector,
-        16,
-    );
+    tag::key_vector_into(tag_key, id, &mut vector, 16);
     rows::auxiliary_into(
         &powers,
         &logs,

@@ -130,13 +130,14 @@ fn write_response(
     let combined = named_record(&powers, &logs, archive, message);
     let node = message::node_in(message);
     let key = tag::key_array(mask_key);
+    let id = archive::id_in(archive);
     write_parts(
         node,
         z.n,
         z.m,
         &combined,
         key,
-        &archive[4..12],
+        &id,
         auxiliary,
         seed,
         response,

@@ -1,19 +1,20 @@
 -- What Vector's answer tells, and what is written then. Assumes nothing.
 use Prim.Native.Nat.{ℕ, _+_}
 use mathlib.Core.Path.{_≡_, sym, _∙_}
-use mathlib.Core.List.{List, _∷_}
+use mathlib.Core.List.{List}
 use lib.ListN.{length}
 use Rattle.lists.specs.Lists.{tab}
+use Rattle.lists.proofs.TabLaws.{tab-same}
 use Rattle.lists.proofs.AnyLaws.{any-first, any-rest}
 use Rattle.answer.specs.declared.Outcome.{Outcome}
 use Rattle.answer.specs.declared.Outcome.the-variants.{Done, Refused}
 use Rattle.answer.specs.declared.Refusal.{Refusal}
 use Rattle.answer.proofs.RefusalLaws.{accepted, same, after-done, after-refused}
 use Rattle.keystream.specs.declared.stream.Stream.{Stream}
-use Rattle.keystream.specs.PrivateStream.{fresh, drawn, after}
+use Rattle.keystream.specs.PrivateStream.{drawn, after}
 use Rattle.tag.specs.Vector.{vectorAnswer, vectorOut}
 use Rattle.tag.specs.KeyVector.{keyVector}
-use Rattle.tag.proofs.StreamLaws.{vector-drawn}
+use Rattle.tag.specs.PrivateKeyStream.{GivesKeyVector}
 
 module _ (key id : List ℕ) (n m : ℕ) (out : List ℕ) {o : Outcome} (answer : o ≡ vectorAnswer key id n m out) where
   pub vector-lengths : o ≡ Done → (length key ≡ 32) × (length id ≡ 8) × (length out ≡ n + m)
@@ -22,11 +23,12 @@ module _ (key id : List ℕ) (n m : ℕ) (out : List ℕ) {o : Outcome} (answer 
       let t = accepted _ _ _ (accepted _ _ _ (sym answer ∙ e) .1) .0 in
       (same _ _ (any-first _ _ t), same _ _ (any-first _ _ (any-rest _ _ t)), same _ _ (any-first _ _ (any-rest _ _ (any-rest _ _ t))))
 
-  pub vector-written : o ≡ Done → {k nonce written : List ℕ} {s : Stream} → k ≡ key → nonce ≡ 1 ∷ 0 ∷ 0 ∷ 0 ∷ id → s ≡ fresh k nonce
+  pub vector-written : o ≡ Done → {written : List ℕ} (s : Stream) → GivesKeyVector key id s
       → written ≡ tab (length out) (λ i. drawn (after i s) .byte) → written ≡ vectorOut key id n m out
   unfolding vectorOut
-  vector-written e {k} {nonce} {written} {s} p q r w =
-      w ∙ rw (r, p, q, vector-lengths e .2) (vector-drawn (n + m) key id) ∙ sym (after-done out (tab (n + m) (keyVector key id)) (sym answer ∙ e))
+  vector-written e s gives w =
+      w ∙ rw (vector-lengths e .2) (tab-same (n + m) _ (keyVector key id) (λ i h. gives i))
+      ∙ sym (after-done out (tab (n + m) (keyVector key id)) (sym answer ∙ e))
 
   pub vector-kept : {r : Refusal} → o ≡ Refused r → out ≡ vectorOut key id n m out
   unfolding vectorOut

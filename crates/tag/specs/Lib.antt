@@ -1,2 +1,3 @@
 pub mod KeyVector
 pub mod Vector
+pub mod PrivateKeyStream

@@ -1,13 +1,15 @@
 // Key vectors and tags (NC-Audit): F1, and the tag of a block.
 ghost use mathlib.Core.Path.{_≡_};
 ghost use mathlib.Core.List.{_∷_};
-ghost use Prim.Native.Nat.{_+_, _≤_};
+ghost use Prim.Native.Nat.{_+_, _*_, _≤_};
 ghost use lib.ListN.{length};
-ghost use Rattle.lists.specs.Lists.{at, tab};
+ghost use Rattle.lists.specs.Lists.{at, tab, put};
+ghost use Rattle.sizes.specs.Lengths.{keyLength, idLength};
 ghost use Rattle.field.specs.PrivateTables.{PowerTable, LogTable};
 ghost use Rattle.keystream.specs.PrivateStream.{drawn, after};
 ghost use Rattle.vector.specs.Vectors.{product};
-ghost use Rattle.tag.specs.KeyVector.{TagsCombine};
+ghost use Rattle.tag.specs.KeyVector.{keyVector, TagsCombine};
+ghost use Rattle.tag.specs.PrivateKeyStream.{GivesKeyVector};
 ghost use Rattle.tag.specs.Vector.{vectorAnswer, vectorOut};
 use answer::Outcome;
 use answer::Refusal;
@@ -44,6 +46,22 @@ pub fn id_nonce(a: u8, b: u8, c: u8, d: u8, id: &[u8]) -> [u8; 12]
         id[6],
         id[7],
     ]
+}
+
+// The stream whose bytes are the key vector of a tag key and an id: the one door to F1, drawn byte by byte.
+pub fn key_stream(tag_key: &[u8], id: &[u8]) -> Stream
+    requires { ⌜ (length (now «tag_key») ≡ keyLength) × (length (now id) ≡ idLength) ⌝ }
+    ensures { λ s. ⌜ GivesKeyVector (now («tag_key» .entry)) (now (id .entry)) s ⌝ }
+{
+    Stream::new(key_array(tag_key), id_nonce(1, 0, 0, 0, id))
+}
+
+// The first 64 times `count` elements of that vector at the front of out: the same door, block by block.
+pub fn key_vector_into(tag_key: &[u8], id: &[u8], out: &mut [u8], count: usize)
+    requires { ⌜ (length (now «tag_key») ≡ keyLength) × (length (now id) ≡ idLength) × (64 * count ≤ length (now out)) ⌝ }
+    ensures { λ _. ⌜ now (out .exit) ≡ put (64 * count) 0 (keyVector (now («tag_key» .entry)) (now (id .entry))) (now (out .entry)) ⌝ }
+{
+    keystream::fill(key_array(tag_key), id_nonce(1, 0, 0, 0, id), out, count);
 }
 
 // The product of len bytes, from `first` on, and as many bytes of a stream.
@@ -105,10 +123,7 @@ pub fn vector(tag_key: &[u8], id: &[u8], n: usize, m: usize, out: &mut [u8]) -> 
 {
     let answer = vector_check(tag_key, id, n, m, out);
     if let Outcome::Done = answer {
-        draw_into(
-            Stream::new(key_array(tag_key), id_nonce(1, 0, 0, 0, id)),
-            out,
-        );
+        draw_into(key_stream(tag_key, id), out);
     }
     answer
 }

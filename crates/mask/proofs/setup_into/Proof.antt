@@ -5,18 +5,15 @@ use Rattle.mask.proofs.setup_into.Tie as tie
 
 returns : tie.Need-returns
 returns c =
-    let f = c .before .before .before .before .before .before .before .before .before in
-    let i = f .before .before in
-    let high = i .before .before .before .before .before .before .before .before .before .pre .1 in
-    auxiliary-of _ _ _ _ _ (i .before .key-array .ensures) (i .id-nonce .ensures) (c .before .before .before .before .before .key-array2 .ensures) (search needs) (f .fill .ensures) high
+    let v = c .before .before .before .before .before .before .before .before .before in
+    let high = v .before .before .before .before .before .before .before .before .before .pre .1 in
+    auxiliary-of _ _ _ _ _ (c .before .before .before .before .before .key-array .ensures) (search needs) (v .key-vector-into .ensures) high
     (c .before .before .auxiliary-into .ensures)
 
 pub setup-into-spec : {M : Type 1} → statement M
 setup-into-spec =
     tie.close
     (tie.spec
-    (λ c κs. search needs)
-    (λ c κs. search needs)
     (λ c κs. search needs)
     (λ c. search needs)
     (λ c κs. search needs)

@@ -1,10 +1,11 @@
 use borrow.Author.Needs.{needs}
-use mathlib.Core.Path.{_≡_, ap}
+use mathlib.Core.Path.{_≡_, ap, _∙_}
 use native.Mathlib.Omega.{arith}
+use lib.ListN.{length}
 use Rattle.sizes.specs.declared.Sizes.{Sizes}
-use Rattle.archive.proofs.GoodArchiveLaws.{good-length}
+use Rattle.archive.proofs.GoodArchiveLaws.{good-length, good-id}
 use Rattle.archive.proofs.CallLaws.{read-sizes}
-use Rattle.archive.proofs.ProveCheckLaws.{provable, id-part, id-read, proved-is}
+use Rattle.archive.proofs.ProveCheckLaws.{provable, proved-is}
 use Rattle.proving.proofs.write_response.Statement.{statement}
 use Rattle.proving.proofs.write_response.Tie as tie
 
@@ -32,15 +33,15 @@ key-array-requires c κs =
     let b = t .before .before .before .before .before .before .before in
     provable _ _ _ _ _ _ (b .pre) .key-length
 
-part-write-parts-end : tie.Need-part-write-parts-end
-part-write-parts-end c =
-    let t = c .before .before .before .before .before .before .before .before .before in
+id-in-requires : tie.Need-id-in-requires
+id-in-requires c κs =
+    let t = c .before .before .before .before .before .before .before .before in
     let b = t .before .before .before .before .before .before .before in
     omega (arith, good-length _ (provable _ _ _ _ _ _ (b .pre) .good))
 
 write-parts-requires : tie.Need-write-parts-requires
 write-parts-requires c κs =
-    let node = c .before .before .before .before in
+    let node = c .before .before .before .before .before in
     let z = node .before .before .before .before in
     let b = z .before .before .before .before .before .before .before .before .before .before in
     let P = provable _ _ _ _ _ _ (b .pre) in
@@ -51,7 +52,7 @@ write-parts-requires c κs =
       R .n-high,
       R .m-high,
       search needs,
-      id-part _ (P .good),
+      ap length (c .before .before .before .id-in .ensures) ∙ good-id _ (P .good),
       rw n (P .elements-length),
       P .seed-length,
       rw n (P .response-length),
@@ -59,12 +60,13 @@ write-parts-requires c κs =
 
 returns : tie.Need-returns
 returns c =
-    let key = c .before .before .before .before .before .before in
+    let id = c .before .before .before .before .before .before in
+    let key = id .before in
     let named = key .before .before in
     let z = named .before .before .before in
     let b = z .before .before .before .before .before .before .before .before .before .before in
     proved-is _ _ _ _ _ (named .named-record .result) (provable _ _ _ _ _ _ (b .pre) .good) (z .sizes-in .ensures) (key .before .node-in .ensures .0)
-    (key .key-array .ensures) (id-read _) (named .named-record .ensures) (c .before .before .write-parts .ensures)
+    (key .key-array .ensures) (id .id-in .ensures) (named .named-record .ensures) (c .before .before .write-parts .ensures)
 
 pub write-response-spec : {M : Type 1} → statement M
 write-response-spec =
@@ -75,10 +77,9 @@ write-response-spec =
     named-record-requires
     node-in-requires
     key-array-requires
+    id-in-requires
     (λ c. search needs)
     (λ c. search needs)
-    (λ c. search needs)
-    part-write-parts-end
     write-parts-requires
     (λ c. search needs)
     returns)

@@ -31,36 +31,36 @@ row-from-requires c κs =
     let ok = encodable _ _ _ _ _ _ _ (z .sizes-in .ensures) (z .before .before .before .before .before .before .before .before .before .before .pre) in
     (ok .sizes .m-high, omega (arith, ok .row-length))
 
-key-array-requires : tie.Need-key-array-requires
-key-array-requires c κs =
-    let z = c .before .before .before in
-    let ok = encodable _ _ _ _ _ _ _ (z .sizes-in .ensures) (z .before .before .before .before .before .before .before .before .before .before .pre) in
-    ok .key-length
-
-part-id-nonce-end : tie.Need-part-id-nonce-end
-part-id-nonce-end c =
-    let z = c .before .before .before .before .before in
+id-in-requires : tie.Need-id-in-requires
+id-in-requires c κs =
+    let z = c .before .before .before .before in
     let ok = encodable _ _ _ _ _ _ _ (z .sizes-in .ensures) (z .before .before .before .before .before .before .before .before .before .before .pre) in
     omega (arith, ok .fits)
 
+key-stream-requires : tie.Need-key-stream-requires
+key-stream-requires c κs =
+    let z = c .before .before .before .before .before .before in
+    let ok = encodable _ _ _ _ _ _ _ (z .sizes-in .ensures) (z .before .before .before .before .before .before .before .before .before .before .pre) in
+    (ok .key-length, search needs)
+
 set-marks-requires : tie.Need-set-marks-requires
 set-marks-requires c κs =
-    let z = c .before .before .before .before .before .before .before .before .before in
+    let z = c .before .before .before .before .before .before .before .before in
     let ok = encodable _ _ _ _ _ _ _ (z .sizes-in .ensures) (z .before .before .before .before .before .before .before .before .before .before .pre) in
     (omega (arith, ok .number), omega (arith, ok .fits))
 
 write-block-requires : tie.Need-write-block-requires
 write-block-requires c κs =
     let marks = c .before .before .before .before in
-    let start = marks .before .before .before .before .before .before .before .before .before in
+    let start = marks .before .before .before .before .before .before .before .before in
     let z = start .before .before in
     let ok = encodable _ _ _ _ _ _ _ (z .sizes-in .ensures) (z .before .before .before .before .before .before .before .before .before .before .pre) in
     let t = z .before .before .before .before .tables .ensures in
-    (t .0, t .1, not-sizes-outside _ (ok .sizes), ok .file-length, ok .padding-length, omega (arith, ok .fits, start .record-start .ensures, marks .archive2 .given))
+    (t .0, t .1, not-sizes-outside _ (ok .sizes), ok .file-length, ok .padding-length, omega (arith, ok .fits, start .record-start .ensures, marks .archive .given))
 
 add-product-drawn : tie.Need-add-product-drawn
 add-product-drawn c =
-    let z = c .before .before .before .before .before .before .before .before .before .before .before .before .before .before .before .before .before .before .before .before .before .before in
+    let z = c .before .before .before .before .before .before .before .before .before .before .before .before .before .before .before .before .before .before .before .before .before in
     let ok = encodable _ _ _ _ _ _ _ (z .sizes-in .ensures) (z .before .before .before .before .before .before .before .before .before .before .pre) in
     omega (arith, ok .sizes)
 
@@ -68,22 +68,22 @@ product-drawn-requires : tie.Need-product-drawn-requires
 product-drawn-requires c κs =
     let block = c .before .before .before .before .before in
     let marks = block .before .before .before .before .before .before in
-    let start = marks .before .before .before .before .before .before .before .before .before in
+    let start = marks .before .before .before .before .before .before .before .before in
     let z = start .before .before in
     let ok = encodable _ _ _ _ _ _ _ (z .sizes-in .ensures) (z .before .before .before .before .before .before .before .before .before .before .pre) in
     let t = z .before .before .before .before .tables .ensures in
-    (t .0, t .1, omega (arith, ok .fits, start .record-start .ensures, marks .archive2 .given, block .archive3 .given))
+    (t .0, t .1, omega (arith, ok .fits, start .record-start .ensures, marks .archive .given, block .archive2 .given))
 
 add-archive : tie.Need-add-archive
 add-archive c =
-    let start = c .before .before .before .before .before .before .before .before .before .before .before .before .before .before .before .before .before .before .before .before .before .before in
+    let start = c .before .before .before .before .before .before .before .before .before .before .before .before .before .before .before .before .before .before .before .before .before in
     let z = start .before .before in
     let s = z .before .before .before .before .before .before .before .before .before .before in
     omega (arith, encodable _ _ _ _ _ _ _ (z .sizes-in .ensures) (s .pre) .fits, start .record-start .ensures)
 
 add-archive-2 : tie.Need-add-archive-2
 add-archive-2 c =
-    let start = c .before .before .before .before .before .before .before .before .before .before .before .before .before .before .before .before .before .before .before .before .before .before .before in
+    let start = c .before .before .before .before .before .before .before .before .before .before .before .before .before .before .before .before .before .before .before .before .before .before in
     let z = start .before .before in
     let s = z .before .before .before .before .before .before .before .before .before .before in
     omega (arith, encodable _ _ _ _ _ _ _ (z .sizes-in .ensures) (s .pre) .fits, start .record-start .ensures)
@@ -92,28 +92,28 @@ slice-write-archive : tie.Need-slice-write-archive
 slice-write-archive c =
     let block = c .before .before .before .before .before .before .before .before in
     let marks = block .before .before .before .before .before .before in
-    let start = marks .before .before .before .before .before .before .before .before .before in
+    let start = marks .before .before .before .before .before .before .before .before in
     let z = start .before .before in
     let ok = encodable _ _ _ _ _ _ _ (z .sizes-in .ensures) (z .before .before .before .before .before .before .before .before .before .before .pre) in
-    omega (arith, ok .fits, start .record-start .ensures, marks .archive2 .given, block .archive3 .given)
+    omega (arith, ok .fits, start .record-start .ensures, marks .archive .given, block .archive2 .given)
 
 same-length : tie.Need-same-length
 same-length c =
     let block = c .before .before .before .before .before .before .before .before in
-    simp length-set (omega (arith, block .before .before .before .before .before .before .archive2 .given, block .archive3 .given))
+    simp length-set (omega (arith, block .before .before .before .before .before .before .archive .given, block .archive2 .given))
 
 returns : tie.Need-returns
 returns c =
     let block = c .before .before .before .before .before .before .before .before .before in
     let marks = block .before .before .before .before .before .before in
     let stream = marks .before .before in
-    let key = stream .before .before .before .before in
-    let kept = key .before in
+    let id = stream .before .before in
+    let kept = id .before .before in
     let start = kept .before in
     let z = start .before .before in
     let ok = encodable _ _ _ _ _ _ _ (z .sizes-in .ensures) (z .before .before .before .before .before .before .before .before .before .before .pre) in
-    place-filled _ _ _ _ _ _ _ _ (z .sizes-in .ensures) ok (start .record-start .ensures) (key .key-array .ensures) (stream .before .id-nonce .ensures)
-    (stream .new .ensures) (marks .set-marks .ensures) (kept .row-from .ensures) (block .write-block .ensures) (c .before .before .product-drawn .ensures)
+    place-filled _ _ _ _ _ _ _ _ _ (z .sizes-in .ensures) ok (start .record-start .ensures) (id .id-in .ensures) (stream .key-stream .ensures)
+    (marks .set-marks .ensures) (kept .row-from .ensures) (block .write-block .ensures) (c .before .before .product-drawn .ensures)
 
 pub fill-place-spec : {M : Type 1} → statement M
 fill-place-spec =
@@ -125,12 +125,9 @@ fill-place-spec =
     add-k
     record-start-requires
     row-from-requires
-    key-array-requires
+    id-in-requires
     (λ c. search needs)
-    (λ c. search needs)
-    part-id-nonce-end
-    (λ c κs. search needs)
-    (λ c κs. search needs)
+    key-stream-requires
     set-marks-requires
     write-block-requires
     add-product-drawn
