@@ -14,7 +14,9 @@ use answer::Refusal;
 // 8 times the node plus the place for each filled place, then zeros; their number.
 fn list_filled(archive: &[u8], list: &mut [u8]) -> usize
     requires { ⌜ (badArchive (now archive) ≡ false) × (length (now list) ≡ placeCount (sizesOf (now archive))) ⌝ }
-    ensures { λ r. ⌜ Listed (sizesOf (now (archive .entry))) (filledIn (sizesOf (now (archive .entry))) (now (archive .entry))) r (now (list .exit)) ⌝ }
+    ensures { λ r.
+        let archive = now (archive .entry) in
+        ⌜ Listed (sizesOf archive) (filledIn (sizesOf archive) archive) r (now (list .exit)) ⌝ }
 {
     let z = sizes_in(archive);
     let places = z.places;

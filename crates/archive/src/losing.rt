@@ -29,7 +29,9 @@ fn lose_check(archive: &[u8], node: usize) -> Outcome
 // No marks and zero records for the node's places.
 fn empty_node(archive: &mut [u8], node: usize)
     requires { ⌜ Passed (archiveAnswer (now archive) (Calls.lose node)) ⌝ }
-    ensures { λ _. ⌜ now (archive .exit) ≡ effectFor (sizesOf (now (archive .entry))) (idOf (now (archive .entry))) (now (archive .entry)) (Calls.lose node) ⌝ }
+    ensures { λ _.
+        ⌜ now (archive .exit)
+        ≡ effectFor (sizesOf (now (archive .entry))) (idOf (now (archive .entry))) (now (archive .entry)) (Calls.lose node) ⌝ }
 {
     let z = sizes_in(archive);
     let k = node * z.places;

@@ -46,8 +46,14 @@ pub fn open(
     id: &[u8],
     archive: &mut [u8],
 ) -> Outcome
-    ensures answer { λ r. ⌜ r ≡ openAnswer (record { n = n; m = m; places = places; nodes = nodes }) (now (id .entry)) (now (archive .entry)) ⌝ }
-    ensures output { λ _. ⌜ now (archive .exit) ≡ openOut (record { n = n; m = m; places = places; nodes = nodes }) (now (id .entry)) (now (archive .entry)) ⌝ }
+    ensures answer { λ r.
+        let id = now (id .entry) in
+        let archive = now (archive .entry) in
+        ⌜ r ≡ openAnswer (record { n = n; m = m; places = places; nodes = nodes }) id archive ⌝ }
+    ensures output { λ _.
+        let id = now (id .entry) in
+        ⌜ now (archive .exit)
+        ≡ openOut (record { n = n; m = m; places = places; nodes = nodes }) id (now (archive .entry)) ⌝ }
 {
     let z = Sizes {
         n,

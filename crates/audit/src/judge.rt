@@ -41,7 +41,13 @@ fn verdict_check(
     message: &[u8],
     response: &[u8],
 ) -> Outcome
-    ensures { λ r. ⌜ r ≡ verdictFor z (now («tag_key» .entry)) (now (id .entry)) (now (rows .entry)) (challengeOf (now (message .entry))) (malformedChallenge (now (message .entry))) (now (response .entry)) ⌝ }
+    ensures { λ r.
+        let tagKey = now («tag_key» .entry) in
+        let id = now (id .entry) in
+        let rows = now (rows .entry) in
+        let message = now (message .entry) in
+        let response = now (response .entry) in
+        ⌜ r ≡ verdictFor z tagKey id rows (challengeOf message) (malformedChallenge message) response ⌝ }
 {
     if sizes::sizes_outside(z) {
         return Outcome::Refused(Refusal::Size);
@@ -67,7 +73,12 @@ fn verdict_check(
 
 // The rows of the named places, combined by the challenge.
 fn named_row(powers: &[u8; 510], logs: &[u8; 256], z: Sizes, rows: &[u8], message: &[u8]) -> Row
-    requires { ⌜ PowerTable (now powers) × LogTable (now logs) × (sizesOutside z ≡ false) × (malformedChallenge (now message) ≡ false) × (notThere z (challengeOf (now message)) ≡ false) × (length (now rows) ≡ z .places * z .m) ⌝ }
+    requires { ⌜ PowerTable (now powers)
+        × LogTable (now logs)
+        × (sizesOutside z ≡ false)
+        × (malformedChallenge (now message) ≡ false)
+        × (notThere z (challengeOf (now message)) ≡ false)
+        × (length (now rows) ≡ z .places * z .m) ⌝ }
     ensures { λ r. ⌜ r ≡ kept (z .m) (namedRow z (now (rows .entry)) (challengeOf (now (message .entry)))) ⌝ }
 {
     let mut bytes = [0u8; 16];
@@ -84,7 +95,11 @@ fn agrees(
     response: &[u8],
     vector: &[u8],
 ) -> bool
-    requires { ⌜ PowerTable (now powers) × LogTable (now logs) × (sizesOutside z ≡ false) × (length (now response) ≡ responseLength (z .n)) × (length (now vector) ≡ 1088) ⌝ }
+    requires { ⌜ PowerTable (now powers)
+        × LogTable (now logs)
+        × (sizesOutside z ≡ false)
+        × (length (now response) ≡ responseLength (z .n))
+        × (length (now vector) ≡ 1088) ⌝ }
     ensures { λ r. ⌜ r ≡ accepts z (at (now (vector .entry))) (at (row .bytes)) (now (response .entry)) ⌝ }
 {
     let n = z.n;
@@ -110,7 +125,13 @@ fn judged(
     response: &[u8],
 ) -> Judgement
     requires { ⌜ Passed (verdictFor z (now «tag_key») (now id) (now rows) (challengeOf (now message)) (malformedChallenge (now message)) (now response)) ⌝ }
-    ensures { λ r. ⌜ r ≡ verdictOf (now («tag_key» .entry)) (now (id .entry)) z (now (rows .entry)) (now (message .entry)) (now (response .entry)) ⌝ }
+    ensures { λ r.
+        let tagKey = now («tag_key» .entry) in
+        let id = now (id .entry) in
+        let rows = now (rows .entry) in
+        let message = now (message .entry) in
+        let response = now (response .entry) in
+        ⌜ r ≡ verdictOf tagKey id z rows message response ⌝ }
 {
     let pair = field::tables();
     let powers = pair.powers;
@@ -137,7 +158,13 @@ pub fn verdict(
     message: &[u8],
     response: &[u8],
 ) -> Judgement
-    ensures { λ r. ⌜ r ≡ verdictOf (now («tag_key» .entry)) (now (id .entry)) (record { n = n; m = m; places = places; nodes = nodes }) (now (rows .entry)) (now (message .entry)) (now (response .entry)) ⌝ }
+    ensures { λ r.
+        let tagKey = now («tag_key» .entry) in
+        let id = now (id .entry) in
+        let rows = now (rows .entry) in
+        let message = now (message .entry) in
+        let response = now (response .entry) in
+        ⌜ r ≡ verdictOf tagKey id (record { n = n; m = m; places = places; nodes = nodes }) rows message response ⌝ }
 {
     let z = Sizes {
         n,

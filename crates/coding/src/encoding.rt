@@ -33,7 +33,13 @@ fn encode_check(
     tag_key: &[u8],
     row: &[u8],
 ) -> Outcome
-    ensures { λ r. ⌜ r ≡ archiveAnswer (now (archive .entry)) (Calls.encode node place (now (file .entry)) (now (padding .entry)) (now («tag_key» .entry)) (now (row .entry))) ⌝ }
+    ensures { λ r.
+        let archive = now (archive .entry) in
+        let file = now (file .entry) in
+        let padding = now (padding .entry) in
+        let tagKey = now («tag_key» .entry) in
+        let row = now (row .entry) in
+        ⌜ r ≡ archiveAnswer archive (Calls.encode node place file padding tagKey row) ⌝ }
 {
     if bad_archive(archive) {
         return Outcome::Refused(Refusal::BadArchive);
@@ -66,8 +72,16 @@ fn write_block(
     archive: &mut [u8],
     start: usize,
 )
-    requires { ⌜ PowerTable (now powers) × LogTable (now logs) × (sizesOutside z ≡ false) × (length (now file) ≡ fileLength z) × (length (now padding) ≡ paddingLength z) × (start + blockLength z ≤ length (now archive)) ⌝ }
-    ensures { λ _. ⌜ now (archive .exit) ≡ put (blockLength z) start (coded z (now (file .entry)) (now (padding .entry)) (at (row .bytes))) (now (archive .entry)) ⌝ }
+    requires { ⌜ PowerTable (now powers)
+        × LogTable (now logs)
+        × (sizesOutside z ≡ false)
+        × (length (now file) ≡ fileLength z)
+        × (length (now padding) ≡ paddingLength z)
+        × (start + blockLength z ≤ length (now archive)) ⌝ }
+    ensures { λ _.
+        let file = now (file .entry) in
+        let padding = now (padding .entry) in
+        ⌜ now (archive .exit) ≡ put (blockLength z) start (coded z file padding (at (row .bytes))) (now (archive .entry)) ⌝ }
 {
     let n = z.n;
     let m = z.m;
@@ -113,7 +127,13 @@ fn fill_place(
     row: &[u8],
 )
     requires { ⌜ Passed (archiveAnswer (now archive) (Calls.encode node place (now file) (now padding) (now «tag_key») (now row))) ⌝ }
-    ensures { λ _. ⌜ now (archive .exit) ≡ effectFor (sizesOf (now (archive .entry))) (idOf (now (archive .entry))) (now (archive .entry)) (Calls.encode node place (now (file .entry)) (now (padding .entry)) (now («tag_key» .entry)) (now (row .entry))) ⌝ }
+    ensures { λ _.
+        let file = now (file .entry) in
+        let padding = now (padding .entry) in
+        let tagKey = now («tag_key» .entry) in
+        let row = now (row .entry) in
+        ⌜ now (archive .exit)
+        ≡ effectFor (sizesOf (now (archive .entry))) (idOf (now (archive .entry))) (now (archive .entry)) (Calls.encode node place file padding tagKey row) ⌝ }
 {
     let pair = field::tables();
     let powers = pair.powers;
@@ -140,8 +160,19 @@ pub fn encode(
     tag_key: &[u8],
     row: &[u8],
 ) -> Outcome
-    ensures answer { λ r. ⌜ r ≡ archiveAnswer (now (archive .entry)) (Calls.encode node place (now (file .entry)) (now (padding .entry)) (now («tag_key» .entry)) (now (row .entry))) ⌝ }
-    ensures output { λ _. ⌜ now (archive .exit) ≡ archiveAfter (now (archive .entry)) (Calls.encode node place (now (file .entry)) (now (padding .entry)) (now («tag_key» .entry)) (now (row .entry))) ⌝ }
+    ensures answer { λ r.
+        let archive = now (archive .entry) in
+        let file = now (file .entry) in
+        let padding = now (padding .entry) in
+        let tagKey = now («tag_key» .entry) in
+        let row = now (row .entry) in
+        ⌜ r ≡ archiveAnswer archive (Calls.encode node place file padding tagKey row) ⌝ }
+    ensures output { λ _.
+        let file = now (file .entry) in
+        let padding = now (padding .entry) in
+        let tagKey = now («tag_key» .entry) in
+        let row = now (row .entry) in
+        ⌜ now (archive .exit) ≡ archiveAfter (now (archive .entry)) (Calls.encode node place file padding tagKey row) ⌝ }
 {
     let answer = encode_check(archive, node, place, file, padding, tag_key, row);
     if let Outcome::Done = answer {

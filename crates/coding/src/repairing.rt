@@ -39,7 +39,9 @@ fn any_missing(helpers: &[u8], nodes: usize) -> bool
 // Whether a place of a node is filled; where `filled` is false, whether one is empty.
 fn any_place(archive: &[u8], z: Sizes, node: usize, filled: bool) -> bool
     requires { ⌜ (sizesOutside z ≡ false) × (node < z .nodes) × (18 ≤ length (now archive)) ⌝ }
-    ensures { λ r. ⌜ r ≡ anyBelow (z .places) (λ k. pick filled (filledIn z (now (archive .entry)) node k) (not (filledIn z (now (archive .entry)) node k))) ⌝ }
+    ensures { λ r.
+        let archive = now (archive .entry) in
+        ⌜ r ≡ anyBelow (z .places) (λ k. pick filled (filledIn z archive node k) (not (filledIn z archive node k))) ⌝ }
 {
     let places = z.places;
     for k in 0..places {
@@ -52,8 +54,13 @@ fn any_place(archive: &[u8], z: Sizes, node: usize, filled: bool) -> bool
 
 // Whether a place of a helper is empty.
 fn any_helper_empty(archive: &[u8], z: Sizes, helpers: &[u8]) -> bool
-    requires { ⌜ (sizesOutside z ≡ false) × (18 ≤ length (now archive)) × (anyBelow (length (now helpers)) (λ i. leb (z .nodes) (at (now helpers) i)) ≡ false) ⌝ }
-    ensures { λ r. ⌜ r ≡ anyBelow (length (now (helpers .entry))) (λ i. anyBelow (z .places) (λ l. not (filledIn z (now (archive .entry)) (at (now (helpers .entry)) i) l))) ⌝ }
+    requires { ⌜ (sizesOutside z ≡ false)
+        × (18 ≤ length (now archive))
+        × (anyBelow (length (now helpers)) (λ i. leb (z .nodes) (at (now helpers) i)) ≡ false) ⌝ }
+    ensures { λ r.
+        let helpers = now (helpers .entry) in
+        let archive = now (archive .entry) in
+        ⌜ r ≡ anyBelow (length helpers) (λ i. anyBelow (z .places) (λ l. not (filledIn z archive (at helpers i) l))) ⌝ }
 {
     for i in 0..helpers.len() {
         if any_place(archive, z, lists::widen(helpers[i]), false) {
@@ -73,7 +80,13 @@ fn repair_check(
     thetas: &[u8],
     scratch: &[u8],
 ) -> Outcome
-    ensures { λ r. ⌜ r ≡ archiveAnswer (now (archive .entry)) (Calls.repair target (now (helpers .entry)) q (now (gammas .entry)) (now (thetas .entry)) (length (now (scratch .entry)))) ⌝ }
+    ensures { λ r.
+        let archive = now (archive .entry) in
+        let helpers = now (helpers .entry) in
+        let gammas = now (gammas .entry) in
+        let thetas = now (thetas .entry) in
+        let scratch = now (scratch .entry) in
+        ⌜ r ≡ archiveAnswer archive (Calls.repair target helpers q gammas thetas (length scratch)) ⌝ }
 {
     if bad_archive(archive) {
         return Outcome::Refused(Refusal::BadArchive);
@@ -112,8 +125,20 @@ fn repair_blocks(
     gammas: &[u8],
     scratch: &mut [u8],
 )
-    requires { ⌜ PowerTable (now powers) × LogTable (now logs) × (badArchive (now archive) ≡ false) × (1 ≤ q) × (q ≤ 8) × (length (now helpers) ≤ 5) × (anyBelow (length (now helpers)) (λ i. leb (sizesOf (now archive) .nodes) (at (now helpers) i)) ≡ false) × (length (now gammas) ≡ length (now helpers) * q * sizesOf (now archive) .places) × (length (now scratch) ≡ length (now helpers) * q * recordLength (sizesOf (now archive))) ⌝ }
-    ensures { λ _. ⌜ now (scratch .exit) ≡ scratchMade (sizesOf (now (archive .entry))) (now (archive .entry)) (now (helpers .entry)) q (now (gammas .entry)) ⌝ }
+    requires { ⌜ PowerTable (now powers)
+        × LogTable (now logs)
+        × (badArchive (now archive) ≡ false)
+        × (1 ≤ q)
+        × (q ≤ 8)
+        × (length (now helpers) ≤ 5)
+        × (anyBelow (length (now helpers)) (λ i. leb (sizesOf (now archive) .nodes) (at (now helpers) i)) ≡ false)
+        × (length (now gammas) ≡ length (now helpers) * q * sizesOf (now archive) .places)
+        × (length (now scratch) ≡ length (now helpers) * q * recordLength (sizesOf (now archive))) ⌝ }
+    ensures { λ _.
+        let archive = now (archive .entry) in
+        let helpers = now (helpers .entry) in
+        let gammas = now (gammas .entry) in
+        ⌜ now (scratch .exit) ≡ scratchMade (sizesOf archive) archive helpers q gammas ⌝ }
 {
     let z = sizes_in(archive);
     let places = z.places;
@@ -148,8 +173,19 @@ fn target_records(
     archive: &mut [u8],
     target: usize,
 )
-    requires { ⌜ PowerTable (now powers) × LogTable (now logs) × (sizesOutside z ≡ false) × (count ≤ 40) × (target < z .nodes) × (length (now scratch) ≡ count * recordLength z) × (length (now thetas) ≡ count * z .places) × (length (now archive) ≡ archiveLength z) ⌝ }
-    ensures { λ _. ⌜ now (archive .exit) ≡ grid (z .places) (recordLength z) (recordStart z (target * z .places)) (λ k. mixed count (λ t. at (now (thetas .entry)) (t * z .places + k)) (λ t e. at (now (scratch .entry)) (t * recordLength z + e))) (now (archive .entry)) ⌝ }
+    requires { ⌜ PowerTable (now powers)
+        × LogTable (now logs)
+        × (sizesOutside z ≡ false)
+        × (count ≤ 40)
+        × (target < z .nodes)
+        × (length (now scratch) ≡ count * recordLength z)
+        × (length (now thetas) ≡ count * z .places)
+        × (length (now archive) ≡ archiveLength z) ⌝ }
+    ensures { λ _.
+        let thetas = now (thetas .entry) in
+        let scratch = now (scratch .entry) in
+        ⌜ now (archive .exit)
+        ≡ grid (z .places) (recordLength z) (recordStart z (target * z .places)) (λ k. mixed count (λ t. at thetas (t * z .places + k)) (λ t e. at scratch (t * recordLength z + e))) (now (archive .entry)) ⌝ }
 {
     let places = z.places;
     let len = record_length(z);
@@ -183,8 +219,18 @@ fn fill_target(
     scratch: &mut [u8],
 )
     requires { ⌜ Passed (archiveAnswer (now archive) (Calls.repair target (now helpers) q (now gammas) (now thetas) (length (now scratch)))) ⌝ }
-    ensures blocks { λ _. ⌜ now (scratch .exit) ≡ scratchMade (sizesOf (now (archive .entry))) (now (archive .entry)) (now (helpers .entry)) q (now (gammas .entry)) ⌝ }
-    ensures output { λ _. ⌜ now (archive .exit) ≡ effectFor (sizesOf (now (archive .entry))) (idOf (now (archive .entry))) (now (archive .entry)) (Calls.repair target (now (helpers .entry)) q (now (gammas .entry)) (now (thetas .entry)) (length (now (scratch .entry)))) ⌝ }
+    ensures blocks { λ _.
+        let archive = now (archive .entry) in
+        let helpers = now (helpers .entry) in
+        let gammas = now (gammas .entry) in
+        ⌜ now (scratch .exit) ≡ scratchMade (sizesOf archive) archive helpers q gammas ⌝ }
+    ensures output { λ _.
+        let helpers = now (helpers .entry) in
+        let gammas = now (gammas .entry) in
+        let thetas = now (thetas .entry) in
+        let scratch = now (scratch .entry) in
+        ⌜ now (archive .exit)
+        ≡ effectFor (sizesOf (now (archive .entry))) (idOf (now (archive .entry))) (now (archive .entry)) (Calls.repair target helpers q gammas thetas (length scratch)) ⌝ }
 {
     let pair = field::tables();
     let powers = pair.powers;
@@ -214,9 +260,26 @@ pub fn repair(
     thetas: &[u8],
     scratch: &mut [u8],
 ) -> Outcome
-    ensures answer { λ r. ⌜ r ≡ archiveAnswer (now (archive .entry)) (Calls.repair target (now (helpers .entry)) q (now (gammas .entry)) (now (thetas .entry)) (length (now (scratch .entry)))) ⌝ }
-    ensures output { λ _. ⌜ now (archive .exit) ≡ archiveAfter (now (archive .entry)) (Calls.repair target (now (helpers .entry)) q (now (gammas .entry)) (now (thetas .entry)) (length (now (scratch .entry)))) ⌝ }
-    ensures blocks { λ _. ⌜ now (scratch .exit) ≡ scratchAfter (now (archive .entry)) target (now (helpers .entry)) q (now (gammas .entry)) (now (thetas .entry)) (now (scratch .entry)) ⌝ }
+    ensures answer { λ r.
+        let archive = now (archive .entry) in
+        let helpers = now (helpers .entry) in
+        let gammas = now (gammas .entry) in
+        let thetas = now (thetas .entry) in
+        let scratch = now (scratch .entry) in
+        ⌜ r ≡ archiveAnswer archive (Calls.repair target helpers q gammas thetas (length scratch)) ⌝ }
+    ensures output { λ _.
+        let helpers = now (helpers .entry) in
+        let gammas = now (gammas .entry) in
+        let thetas = now (thetas .entry) in
+        let scratch = now (scratch .entry) in
+        ⌜ now (archive .exit)
+        ≡ archiveAfter (now (archive .entry)) (Calls.repair target helpers q gammas thetas (length scratch)) ⌝ }
+    ensures blocks { λ _.
+        let archive = now (archive .entry) in
+        let helpers = now (helpers .entry) in
+        let gammas = now (gammas .entry) in
+        let thetas = now (thetas .entry) in
+        ⌜ now (scratch .exit) ≡ scratchAfter archive target helpers q gammas thetas (now (scratch .entry)) ⌝ }
 {
     let answer = repair_check(archive, target, helpers, q, gammas, thetas, scratch);
     if let Outcome::Done = answer {

@@ -209,7 +209,10 @@ pub fn fill(key: [u8; 32], nonce: [u8; 12], out: &mut [u8], count: usize)
 // The block for a key of 32 bytes, a counter and a nonce of 12 bytes, into 64 bytes.
 pub fn block(key: &[u8], counter: u32, nonce: &[u8], out: &mut [u8]) -> Outcome
     ensures answer { λ r. ⌜ r ≡ blockAnswer (now (key .entry)) (now (nonce .entry)) (now (out .entry)) ⌝ }
-    ensures output { λ _. ⌜ now (out .exit) ≡ blockOut (now (key .entry)) counter (now (nonce .entry)) (now (out .entry)) ⌝ }
+    ensures output { λ _.
+        let key = now (key .entry) in
+        let nonce = now (nonce .entry) in
+        ⌜ now (out .exit) ≡ blockOut key counter nonce (now (out .entry)) ⌝ }
 {
     if key.len() != sizes::KEY_LENGTH {
         return Outcome::Refused(Refusal::Length);

@@ -17,7 +17,10 @@ fn shorter(a: usize, b: usize) -> usize
 // The product of two vectors: the sum of the products of their elements, as many as the shorter has.
 #[no_mangle]
 pub extern "C" fn loops_product(a: &[u8], b: &[u8]) -> u8
-    ensures { λ r. ⌜ r ≡ product (min (length (now (a .entry))) (length (now (b .entry)))) (at (now (a .entry))) (at (now (b .entry))) ⌝ }
+    ensures { λ r.
+        let a = now (a .entry) in
+        let b = now (b .entry) in
+        ⌜ r ≡ product (min (length a) (length b)) (at a) (at b) ⌝ }
 {
     let t = field::tables();
     let powers = t.powers;

@@ -34,7 +34,12 @@ fn any_element(tag_key: &[u8], id: &[u8], len: usize) -> bool
 
 // The first refusal of Setup.
 fn setup_check(tag_key: &[u8], mask_key: &[u8], id: &[u8], n: usize, out: &[u8]) -> Outcome
-    ensures { λ r. ⌜ r ≡ setupAnswer (now («tag_key» .entry)) (now («mask_key» .entry)) (now (id .entry)) n (now (out .entry)) ⌝ }
+    ensures { λ r.
+        let tagKey = now («tag_key» .entry) in
+        let maskKey = now («mask_key» .entry) in
+        let id = now (id .entry) in
+        let out = now (out .entry) in
+        ⌜ r ≡ setupAnswer tagKey maskKey id n out ⌝ }
 {
     if answer::outside(3, 1024, n) {
         return Outcome::Refused(Refusal::Size);
@@ -54,8 +59,17 @@ fn setup_check(tag_key: &[u8], mask_key: &[u8], id: &[u8], n: usize, out: &[u8])
 
 // The auxiliary elements of two keys that were accepted.
 fn setup_into(tag_key: &[u8], mask_key: &[u8], id: &[u8], n: usize, out: &mut [u8])
-    requires { ⌜ (3 ≤ n) × (n ≤ 1024) × (length (now «tag_key») ≡ 32) × (length (now «mask_key») ≡ 32) × (length (now id) ≡ 8) × (length (now out) ≡ n - 1) ⌝ }
-    ensures { λ _. ⌜ now (out .exit) ≡ auxiliary n (keyVector (now («tag_key» .entry)) (now (id .entry))) (maskRow (now («mask_key» .entry)) (now (id .entry))) ⌝ }
+    requires { ⌜ (3 ≤ n)
+        × (n ≤ 1024)
+        × (length (now «tag_key») ≡ 32)
+        × (length (now «mask_key») ≡ 32)
+        × (length (now id) ≡ 8)
+        × (length (now out) ≡ n - 1) ⌝ }
+    ensures { λ _.
+        let tagKey = now («tag_key» .entry) in
+        let id = now (id .entry) in
+        let maskKey = now («mask_key» .entry) in
+        ⌜ now (out .exit) ≡ auxiliary n (keyVector tagKey id) (maskRow maskKey id) ⌝ }
 {
     let pair = field::tables();
     let powers = pair.powers;
@@ -75,8 +89,17 @@ fn setup_into(tag_key: &[u8], mask_key: &[u8], id: &[u8], n: usize, out: &mut [u
 
 // The n - 1 auxiliary elements, of the tag key and the mask key.
 pub fn setup(tag_key: &[u8], mask_key: &[u8], id: &[u8], n: usize, out: &mut [u8]) -> Outcome
-    ensures answer { λ r. ⌜ r ≡ setupAnswer (now («tag_key» .entry)) (now («mask_key» .entry)) (now (id .entry)) n (now (out .entry)) ⌝ }
-    ensures output { λ _. ⌜ now (out .exit) ≡ setupOut (now («tag_key» .entry)) (now («mask_key» .entry)) (now (id .entry)) n (now (out .entry)) ⌝ }
+    ensures answer { λ r.
+        let tagKey = now («tag_key» .entry) in
+        let maskKey = now («mask_key» .entry) in
+        let id = now (id .entry) in
+        let out = now (out .entry) in
+        ⌜ r ≡ setupAnswer tagKey maskKey id n out ⌝ }
+    ensures output { λ _.
+        let tagKey = now («tag_key» .entry) in
+        let maskKey = now («mask_key» .entry) in
+        let id = now (id .entry) in
+        ⌜ now (out .exit) ≡ setupOut tagKey maskKey id n (now (out .entry)) ⌝ }
 {
     let answer = setup_check(tag_key, mask_key, id, n, out);
     if let Outcome::Done = answer {

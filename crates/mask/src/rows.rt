@@ -32,7 +32,13 @@ pub fn auxiliary_into(
     n: usize,
     out: &mut [u8],
 )
-    requires { ⌜ PowerTable (now powers) × LogTable (now logs) × (3 ≤ n) × (n ≤ 1024) × (length (now id) ≡ 8) × (n - 2 ≤ length (now vector)) × (length (now out) ≡ n - 1) ⌝ }
+    requires { ⌜ PowerTable (now powers)
+        × LogTable (now logs)
+        × (3 ≤ n)
+        × (n ≤ 1024)
+        × (length (now id) ≡ 8)
+        × (n - 2 ≤ length (now vector))
+        × (length (now out) ≡ n - 1) ⌝ }
     ensures { λ _. ⌜ now (out .exit) ≡ auxiliary n (at (now (vector .entry))) (maskRow key (now (id .entry))) ⌝ }
 {
     for i in 0..n - 1 {
@@ -52,8 +58,16 @@ fn add_rows(
     out: &mut [u8],
     from: usize,
 )
-    requires { ⌜ PowerTable (now powers) × LogTable (now logs) × (3 ≤ n) × (n ≤ 1024) × (length (now id) ≡ 8) × (from + (n - 2) ≤ length (now out)) ⌝ }
-    ensures { λ _. ⌜ now (out .exit) ≡ added (n - 2) from (mask n (λ i. drawn (after i coefficients) .byte) (maskRow key (now (id .entry)))) (now (out .entry)) ⌝ }
+    requires { ⌜ PowerTable (now powers)
+        × LogTable (now logs)
+        × (3 ≤ n)
+        × (n ≤ 1024)
+        × (length (now id) ≡ 8)
+        × (from + (n - 2) ≤ length (now out)) ⌝ }
+    ensures { λ _.
+        let id = now (id .entry) in
+        ⌜ now (out .exit)
+        ≡ added (n - 2) from (mask n (λ i. drawn (after i coefficients) .byte) (maskRow key id)) (now (out .entry)) ⌝ }
 {
     let mut s = coefficients;
     for i in 0..n - 1 {
@@ -88,8 +102,15 @@ fn seed_nonce(seed: &[u8]) -> [u8; 12]
 
 // Adds the mask of a seed to the n - 2 bytes of out from `from` on; a second time takes it off again.
 pub fn add_mask(key: [u8; 32], id: &[u8], seed: &[u8], n: usize, out: &mut [u8], from: usize)
-    requires { ⌜ (3 ≤ n) × (n ≤ 1024) × (length (now id) ≡ 8) × (length (now seed) ≡ 11) × (from + (n - 2) ≤ length (now out)) ⌝ }
-    ensures { λ _. ⌜ now (out .exit) ≡ added (n - 2) from (mask n (maskCoefficient key (now (seed .entry))) (maskRow key (now (id .entry)))) (now (out .entry)) ⌝ }
+    requires { ⌜ (3 ≤ n)
+        × (n ≤ 1024)
+        × (length (now id) ≡ 8)
+        × (length (now seed) ≡ 11)
+        × (from + (n - 2) ≤ length (now out)) ⌝ }
+    ensures { λ _.
+        let seed = now (seed .entry) in
+        let id = now (id .entry) in
+        ⌜ now (out .exit) ≡ added (n - 2) from (mask n (maskCoefficient key seed) (maskRow key id)) (now (out .entry)) ⌝ }
 {
     let pair = field::tables();
     let powers = pair.powers;

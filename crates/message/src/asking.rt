@@ -35,7 +35,9 @@ fn any_high(places: &[u8]) -> bool
 
 // Whether a place is not above the one before it.
 fn any_fall(places: &[u8]) -> bool
-    ensures { λ r. ⌜ r ≡ anyBelow (length (now (places .entry)) - 1) (λ j. leb (at (now (places .entry)) (j + 1)) (at (now (places .entry)) j)) ⌝ }
+    ensures { λ r.
+        let places = now (places .entry) in
+        ⌜ r ≡ anyBelow (length places - 1) (λ j. leb (at places (j + 1)) (at places j)) ⌝ }
 {
     for j in 1..places.len() {
         if places[j] <= places[j - 1] {
@@ -65,7 +67,11 @@ fn out_of_rule(node: usize, places: &[u8]) -> bool
 
 // The first refusal of Challenge.
 fn challenge_check(node: usize, places: &[u8], coefficients: &[u8], message: &[u8]) -> Outcome
-    ensures { λ r. ⌜ r ≡ challengeAnswer (challengeFor node (now (places .entry)) (now (coefficients .entry))) (now (message .entry)) ⌝ }
+    ensures { λ r.
+        let places = now (places .entry) in
+        let coefficients = now (coefficients .entry) in
+        let message = now (message .entry) in
+        ⌜ r ≡ challengeAnswer (challengeFor node places coefficients) message ⌝ }
 {
     if coefficients.len() != places.len() {
         return Outcome::Refused(Refusal::Length);
@@ -81,8 +87,13 @@ fn challenge_check(node: usize, places: &[u8], coefficients: &[u8], message: &[u
 
 // Writes the whole message.
 fn write_message(node: usize, places: &[u8], coefficients: &[u8], message: &mut [u8])
-    requires { ⌜ (length (now places) ≤ 8) × (length (now coefficients) ≡ length (now places)) × (length (now message) ≡ challengeLength (length (now places))) ⌝ }
-    ensures { λ _. ⌜ now (message .exit) ≡ challengeBytes (challengeFor node (now (places .entry)) (now (coefficients .entry))) ⌝ }
+    requires { ⌜ (length (now places) ≤ 8)
+        × (length (now coefficients) ≡ length (now places))
+        × (length (now message) ≡ challengeLength (length (now places))) ⌝ }
+    ensures { λ _.
+        let places = now (places .entry) in
+        let coefficients = now (coefficients .entry) in
+        ⌜ now (message .exit) ≡ challengeBytes (challengeFor node places coefficients) ⌝ }
 {
     lists::clear(message);
     bits::write_field(message, 0, 4, 1);
@@ -96,8 +107,15 @@ fn write_message(node: usize, places: &[u8], coefficients: &[u8], message: &mut 
 
 // The challenge to a node (document 01: box), with a coefficient for each place.
 pub fn challenge(node: usize, places: &[u8], coefficients: &[u8], message: &mut [u8]) -> Outcome
-    ensures answer { λ r. ⌜ r ≡ challengeAnswer (challengeFor node (now (places .entry)) (now (coefficients .entry))) (now (message .entry)) ⌝ }
-    ensures output { λ _. ⌜ now (message .exit) ≡ challengeOut (challengeFor node (now (places .entry)) (now (coefficients .entry))) (now (message .entry)) ⌝ }
+    ensures answer { λ r.
+        let places = now (places .entry) in
+        let coefficients = now (coefficients .entry) in
+        let message = now (message .entry) in
+        ⌜ r ≡ challengeAnswer (challengeFor node places coefficients) message ⌝ }
+    ensures output { λ _.
+        let places = now (places .entry) in
+        let coefficients = now (coefficients .entry) in
+        ⌜ now (message .exit) ≡ challengeOut (challengeFor node places coefficients) (now (message .entry)) ⌝ }
 {
     let answer = challenge_check(node, places, coefficients, message);
     if let Outcome::Done = answer {
@@ -125,7 +143,10 @@ pub fn coefficient_in(message: &[u8], j: usize) -> u8
 // Whether a place in a message of so many items is not above the one before it.
 fn any_fall_in(message: &[u8], count: usize) -> bool
     requires { ⌜ (count ≤ 8) × (challengeBits count ≤ 8 * length (now message)) ⌝ }
-    ensures { λ r. ⌜ r ≡ anyBelow (count - 1) (λ j. leb (fieldAt (now (message .entry)) (challengeBits (j + 1)) 3) (fieldAt (now (message .entry)) (challengeBits j) 3)) ⌝ }
+    ensures { λ r.
+        let message = now (message .entry) in
+        ⌜ r
+        ≡ anyBelow (count - 1) (λ j. leb (fieldAt message (challengeBits (j + 1)) 3) (fieldAt message (challengeBits j) 3)) ⌝ }
 {
     for j in 1..count {
         if place_in(message, j) <= place_in(message, j - 1) {
@@ -185,7 +206,9 @@ pub fn count_in(message: &[u8]) -> usize
 // Whether one of its places is not below a number of places.
 fn any_past(message: &[u8], places: usize) -> bool
     requires { ⌜ malformedChallenge (now message) ≡ false ⌝ }
-    ensures { λ r. ⌜ r ≡ anyBelow (length (challengeOf (now (message .entry)) .places)) (λ j. leb places (at (challengeOf (now (message .entry)) .places) j)) ⌝ }
+    ensures { λ r.
+        let message = now (message .entry) in
+        ⌜ r ≡ anyBelow (length (challengeOf message .places)) (λ j. leb places (at (challengeOf message .places) j)) ⌝ }
 {
     for j in 0..count_in(message) {
         if places <= place_in(message, j) {
@@ -213,8 +236,16 @@ pub fn add_named(
     out: &mut [u8],
     len: usize,
 )
-    requires { ⌜ PowerTable (now powers) × LogTable (now logs) × (malformedChallenge (now message) ≡ false) × ((j : ℕ) → j < length (challengeOf (now message) .places) → start + at (challengeOf (now message) .places) j * len + len ≤ length (now u)) × (len ≤ length (now out)) ⌝ }
-    ensures { λ _. ⌜ now (out .exit) ≡ added len 0 (mixed (length (challengeOf (now (message .entry)) .places)) (at (challengeOf (now (message .entry)) .coefficients)) (λ j e. at (now (u .entry)) (start + at (challengeOf (now (message .entry)) .places) j * len + e))) (now (out .entry)) ⌝ }
+    requires { ⌜ PowerTable (now powers)
+        × LogTable (now logs)
+        × (malformedChallenge (now message) ≡ false)
+        × ((j : ℕ) → j < length (challengeOf (now message) .places) → start + at (challengeOf (now message) .places) j * len + len ≤ length (now u))
+        × (len ≤ length (now out)) ⌝ }
+    ensures { λ _.
+        let message = now (message .entry) in
+        let u = now (u .entry) in
+        ⌜ now (out .exit)
+        ≡ added len 0 (mixed (length (challengeOf message .places)) (at (challengeOf message .coefficients)) (λ j e. at u (start + at (challengeOf message .places) j * len + e))) (now (out .entry)) ⌝ }
 {
     for j in 0..count_in(message) {
         let first = start + place_in(message, j) * len;

@@ -10,7 +10,12 @@ use answer::Refusal;
 
 // The first refusal of Unmask.
 fn unmask_check(n: usize, id: &[u8], mask_key: &[u8], response: &[u8], out: &[u8]) -> Outcome
-    ensures { λ r. ⌜ r ≡ unmaskAnswer n (now (id .entry)) (now («mask_key» .entry)) (now (response .entry)) (now (out .entry)) ⌝ }
+    ensures { λ r.
+        let id = now (id .entry) in
+        let maskKey = now («mask_key» .entry) in
+        let response = now (response .entry) in
+        let out = now (out .entry) in
+        ⌜ r ≡ unmaskAnswer n id maskKey response out ⌝ }
 {
     if answer::outside(3, 1024, n) {
         return Outcome::Refused(Refusal::Size);
@@ -33,8 +38,17 @@ fn unmask_check(n: usize, id: &[u8], mask_key: &[u8], response: &[u8], out: &[u8
 
 // The masked bytes, and then the mask of the response's seed taken off them.
 fn unmask_into(n: usize, id: &[u8], mask_key: &[u8], response: &[u8], out: &mut [u8])
-    requires { ⌜ (3 ≤ n) × (n ≤ 1024) × (length (now id) ≡ 8) × (length (now «mask_key») ≡ 32) × (length (now response) ≡ responseLength n) × (length (now out) ≡ n - 2) ⌝ }
-    ensures { λ _. ⌜ now (out .exit) ≡ tab (n - 2) (unmasked n (now (id .entry)) (now («mask_key» .entry)) (now (response .entry))) ⌝ }
+    requires { ⌜ (3 ≤ n)
+        × (n ≤ 1024)
+        × (length (now id) ≡ 8)
+        × (length (now «mask_key») ≡ 32)
+        × (length (now response) ≡ responseLength n)
+        × (length (now out) ≡ n - 2) ⌝ }
+    ensures { λ _.
+        let id = now (id .entry) in
+        let maskKey = now («mask_key» .entry) in
+        let response = now (response .entry) in
+        ⌜ now (out .exit) ≡ tab (n - 2) (unmasked n id maskKey response) ⌝ }
 {
     lists::store(response, 1, out, 0, n - 2);
     mask::add_mask(
@@ -49,8 +63,17 @@ fn unmask_into(n: usize, id: &[u8], mask_key: &[u8], response: &[u8], out: &mut 
 
 // The n - 2 bytes that a response hides.
 pub fn unmask(n: usize, id: &[u8], mask_key: &[u8], response: &[u8], out: &mut [u8]) -> Outcome
-    ensures answer { λ r. ⌜ r ≡ unmaskAnswer n (now (id .entry)) (now («mask_key» .entry)) (now (response .entry)) (now (out .entry)) ⌝ }
-    ensures output { λ _. ⌜ now (out .exit) ≡ unmaskOut n (now (id .entry)) (now («mask_key» .entry)) (now (response .entry)) (now (out .entry)) ⌝ }
+    ensures answer { λ r.
+        let id = now (id .entry) in
+        let maskKey = now («mask_key» .entry) in
+        let response = now (response .entry) in
+        let out = now (out .entry) in
+        ⌜ r ≡ unmaskAnswer n id maskKey response out ⌝ }
+    ensures output { λ _.
+        let id = now (id .entry) in
+        let maskKey = now («mask_key» .entry) in
+        let response = now (response .entry) in
+        ⌜ now (out .exit) ≡ unmaskOut n id maskKey response (now (out .entry)) ⌝ }
 {
     let answer = unmask_check(n, id, mask_key, response, out);
     if let Outcome::Done = answer {

@@ -20,8 +20,14 @@ use sizes::record_start;
 
 // Whether a named place is empty.
 fn any_named_empty(archive: &[u8], message: &[u8]) -> bool
-    requires { ⌜ (badArchive (now archive) ≡ false) × (malformedChallenge (now message) ≡ false) × (notThere (sizesOf (now archive)) (challengeOf (now message)) ≡ false) ⌝ }
-    ensures { λ r. ⌜ r ≡ anyBelow (length (challengeOf (now (message .entry)) .places)) (λ j. not (filledIn (sizesOf (now (archive .entry))) (now (archive .entry)) (challengeOf (now (message .entry)) .node) (at (challengeOf (now (message .entry)) .places) j))) ⌝ }
+    requires { ⌜ (badArchive (now archive) ≡ false)
+        × (malformedChallenge (now message) ≡ false)
+        × (notThere (sizesOf (now archive)) (challengeOf (now message)) ≡ false) ⌝ }
+    ensures { λ r.
+        let message = now (message .entry) in
+        let archive = now (archive .entry) in
+        ⌜ r
+        ≡ anyBelow (length (challengeOf message .places)) (λ j. not (filledIn (sizesOf archive) archive (challengeOf message .node) (at (challengeOf message .places) j))) ⌝ }
 {
     let z = sizes_in(archive);
     let first = message::node_in(message) * z.places;
@@ -42,7 +48,14 @@ fn prove_check(
     message: &[u8],
     response: &[u8],
 ) -> Outcome
-    ensures { λ r. ⌜ r ≡ proveAnswer (now (archive .entry)) (now («mask_key» .entry)) (now (auxiliary .entry)) (now (seed .entry)) (now (message .entry)) (now (response .entry)) ⌝ }
+    ensures { λ r.
+        let archive = now (archive .entry) in
+        let maskKey = now («mask_key» .entry) in
+        let auxiliary = now (auxiliary .entry) in
+        let seed = now (seed .entry) in
+        let message = now (message .entry) in
+        let response = now (response .entry) in
+        ⌜ r ≡ proveAnswer archive maskKey auxiliary seed message response ⌝ }
 {
     if bad_archive(archive) {
         return Outcome::Refused(Refusal::BadArchive);
@@ -69,8 +82,15 @@ fn prove_check(
 
 // The records of the named places, blocks and tags, combined by the challenge.
 fn named_record(powers: &[u8; 510], logs: &[u8; 256], archive: &[u8], message: &[u8]) -> [u8; 1041]
-    requires { ⌜ PowerTable (now powers) × LogTable (now logs) × (badArchive (now archive) ≡ false) × (malformedChallenge (now message) ≡ false) × (notThere (sizesOf (now archive)) (challengeOf (now message)) ≡ false) ⌝ }
-    ensures { λ r. ⌜ ((e : ℕ) → e < recordLength (sizesOf (now (archive .entry))) → at r e ≡ namedByte (sizesOf (now (archive .entry))) (now (archive .entry)) (challengeOf (now (message .entry))) e) ⌝ }
+    requires { ⌜ PowerTable (now powers)
+        × LogTable (now logs)
+        × (badArchive (now archive) ≡ false)
+        × (malformedChallenge (now message) ≡ false)
+        × (notThere (sizesOf (now archive)) (challengeOf (now message)) ≡ false) ⌝ }
+    ensures { λ r.
+        let archive = now (archive .entry) in
+        let message = now (message .entry) in
+        ⌜ ((e : ℕ) → e < recordLength (sizesOf archive) → at r e ≡ namedByte (sizesOf archive) archive (challengeOf message) e) ⌝ }
 {
     let z = sizes_in(archive);
     let start = record_start(z, message::node_in(message) * z.places);
@@ -99,8 +119,21 @@ fn write_parts(
     seed: &[u8],
     response: &mut [u8],
 )
-    requires { ⌜ (node < 8) × (3 ≤ n) × (n ≤ 1024) × (m ≤ 16) × (length (now combined) ≡ 1041) × (length (now id) ≡ 8) × (length (now auxiliary) ≡ n - 1) × (length (now seed) ≡ 11) × (length (now response) ≡ responseLength n) ⌝ }
-    ensures { λ _. ⌜ now (response .exit) ≡ responseFor n (now (id .entry)) key (now (auxiliary .entry)) (now (seed .entry)) node (at (now (combined .entry))) (at (now (combined .entry)) (n + m)) ⌝ }
+    requires { ⌜ (node < 8)
+        × (3 ≤ n)
+        × (n ≤ 1024)
+        × (m ≤ 16)
+        × (length (now combined) ≡ 1041)
+        × (length (now id) ≡ 8)
+        × (length (now auxiliary) ≡ n - 1)
+        × (length (now seed) ≡ 11)
+        × (length (now response) ≡ responseLength n) ⌝ }
+    ensures { λ _.
+        let id = now (id .entry) in
+        let auxiliary = now (auxiliary .entry) in
+        let seed = now (seed .entry) in
+        let combined = now (combined .entry) in
+        ⌜ now (response .exit) ≡ responseFor n id key auxiliary seed node (at combined) (at combined (n + m)) ⌝ }
 {
     response[0] = message::head_byte(node);
     lists::store(combined, 0, response, 1, n - 2);
@@ -121,7 +154,14 @@ fn write_response(
     response: &mut [u8],
 )
     requires { ⌜ Passed (proveAnswer (now archive) (now «mask_key») (now auxiliary) (now seed) (now message) (now response)) ⌝ }
-    ensures { λ _. ⌜ now (response .exit) ≡ provedFor (sizesOf (now (archive .entry))) (idOf (now (archive .entry))) (now (archive .entry)) (now («mask_key» .entry)) (now (auxiliary .entry)) (now (seed .entry)) (challengeOf (now (message .entry))) ⌝ }
+    ensures { λ _.
+        let archive = now (archive .entry) in
+        let maskKey = now («mask_key» .entry) in
+        let auxiliary = now (auxiliary .entry) in
+        let seed = now (seed .entry) in
+        let message = now (message .entry) in
+        ⌜ now (response .exit)
+        ≡ provedFor (sizesOf archive) (idOf archive) archive maskKey auxiliary seed (challengeOf message) ⌝ }
 {
     let pair = field::tables();
     let powers = pair.powers;
@@ -153,8 +193,21 @@ pub fn prove(
     message: &[u8],
     response: &mut [u8],
 ) -> Outcome
-    ensures answer { λ r. ⌜ r ≡ proveAnswer (now (archive .entry)) (now («mask_key» .entry)) (now (auxiliary .entry)) (now (seed .entry)) (now (message .entry)) (now (response .entry)) ⌝ }
-    ensures output { λ _. ⌜ now (response .exit) ≡ proveOut (now (archive .entry)) (now («mask_key» .entry)) (now (auxiliary .entry)) (now (seed .entry)) (now (message .entry)) (now (response .entry)) ⌝ }
+    ensures answer { λ r.
+        let archive = now (archive .entry) in
+        let maskKey = now («mask_key» .entry) in
+        let auxiliary = now (auxiliary .entry) in
+        let seed = now (seed .entry) in
+        let message = now (message .entry) in
+        let response = now (response .entry) in
+        ⌜ r ≡ proveAnswer archive maskKey auxiliary seed message response ⌝ }
+    ensures output { λ _.
+        let archive = now (archive .entry) in
+        let maskKey = now («mask_key» .entry) in
+        let auxiliary = now (auxiliary .entry) in
+        let seed = now (seed .entry) in
+        let message = now (message .entry) in
+        ⌜ now (response .exit) ≡ proveOut archive maskKey auxiliary seed message (now (response .entry)) ⌝ }
 {
     let answer = prove_check(archive, mask_key, auxiliary, seed, message, response);
     if let Outcome::Done = answer {

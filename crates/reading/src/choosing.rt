@@ -25,8 +25,13 @@ fn row_at(archive: &[u8], z: Sizes, k: usize) -> Row
 
 // The rows of the first `count` of these places.
 pub fn rows_of(archive: &[u8], z: Sizes, places: [u8; 16], count: usize) -> [[u8; 16]; 16]
-    requires { ⌜ (sizesOutside z ≡ false) × (count ≤ z .m) × ((t : ℕ) → t < count → at places t < placeCount z) × (length (now archive) ≡ archiveLength z) ⌝ }
-    ensures { λ r. ⌜ ((t i : ℕ) → t < count → i < z .m → cells r t i ≡ rowIn z (now (archive .entry)) (at places t) i) ⌝ }
+    requires { ⌜ (sizesOutside z ≡ false)
+        × (count ≤ z .m)
+        × ((t : ℕ) → t < count → at places t < placeCount z)
+        × (length (now archive) ≡ archiveLength z) ⌝ }
+    ensures { λ r.
+        let archive = now (archive .entry) in
+        ⌜ ((t i : ℕ) → t < count → i < z .m → cells r t i ≡ rowIn z archive (at places t) i) ⌝ }
 {
     let mut rows = [[0u8; 16]; 16];
     for t in 0..count {
@@ -39,7 +44,11 @@ pub fn rows_of(archive: &[u8], z: Sizes, places: [u8; 16], count: usize) -> [[u8
 
 // The choice among the first k + 1 places, from that among the first k.
 fn consult(archive: &[u8], z: Sizes, c: Chosen, k: usize) -> Chosen
-    requires { ⌜ (sizesOutside z ≡ false) × (k < placeCount z) × (length (now archive) ≡ archiveLength z) × (c .count < z .m) × Choice z (now archive) k c ⌝ }
+    requires { ⌜ (sizesOutside z ≡ false)
+        × (k < placeCount z)
+        × (length (now archive) ≡ archiveLength z)
+        × (c .count < z .m)
+        × Choice z (now archive) k c ⌝ }
     ensures { λ r. ⌜ Choice z (now (archive .entry)) (k + 1) r ⌝ }
 {
     if !archive::marked(archive, k) {

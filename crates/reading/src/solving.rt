@@ -23,8 +23,16 @@ fn add_places(
     file: &mut [u8],
     from: usize,
 )
-    requires { ⌜ PowerTable (now powers) × LogTable (now logs) × (sizesOutside z ≡ false) × ((t : ℕ) → t < z .m → at places t < placeCount z) × (length (now archive) ≡ archiveLength z) × (from + (z .n - 2) ≤ length (now file)) ⌝ }
-    ensures { λ _. ⌜ now (file .exit) ≡ added (z .n - 2) from (mixed (z .m) (at coefficients) (λ t. byteIn z (now (archive .entry)) (at places t))) (now (file .entry)) ⌝ }
+    requires { ⌜ PowerTable (now powers)
+        × LogTable (now logs)
+        × (sizesOutside z ≡ false)
+        × ((t : ℕ) → t < z .m → at places t < placeCount z)
+        × (length (now archive) ≡ archiveLength z)
+        × (from + (z .n - 2) ≤ length (now file)) ⌝ }
+    ensures { λ _.
+        let archive = now (archive .entry) in
+        ⌜ now (file .exit)
+        ≡ added (z .n - 2) from (mixed (z .m) (at coefficients) (λ t. byteIn z archive (at places t))) (now (file .entry)) ⌝ }
 {
     let len = z.n - 2;
     for t in 0..z.m {
@@ -50,8 +58,14 @@ pub fn solve(
     combinations: [[u8; 16]; 16],
     file: &mut [u8],
 )
-    requires { ⌜ (sizesOutside z ≡ false) × ((t : ℕ) → t < z .m → at places t < placeCount z) × (length (now archive) ≡ archiveLength z) × (length (now file) ≡ fileLength z) ⌝ }
-    ensures { λ _. ⌜ now (file .exit) ≡ grid (z .m) (z .n - 2) 0 (λ i. mixed (z .m) (cells combinations i) (λ t. byteIn z (now (archive .entry)) (at places t))) (now (file .entry)) ⌝ }
+    requires { ⌜ (sizesOutside z ≡ false)
+        × ((t : ℕ) → t < z .m → at places t < placeCount z)
+        × (length (now archive) ≡ archiveLength z)
+        × (length (now file) ≡ fileLength z) ⌝ }
+    ensures { λ _.
+        let archive = now (archive .entry) in
+        ⌜ now (file .exit)
+        ≡ grid (z .m) (z .n - 2) 0 (λ i. mixed (z .m) (cells combinations i) (λ t. byteIn z archive (at places t))) (now (file .entry)) ⌝ }
 {
     let pair = field::tables();
     let powers = pair.powers;

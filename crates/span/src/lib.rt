@@ -32,7 +32,8 @@ pub extern "C" fn span_multiply(a: u8, b: u8) -> u8
 #[no_mangle]
 pub extern "C" fn span_inverse(a: u8, out: &mut u8) -> u8
     ensures number { λ r. ⌜ r ≡ outcomeNumber (invertedOutcome (inverted a)) ⌝ }
-    ensures output { λ _. ⌜ now (out .exit) ≡ afterwards (invertedOutcome (inverted a)) (now (out .entry)) (invertedValue (inverted a)) ⌝ }
+    ensures output { λ _.
+        ⌜ now (out .exit) ≡ afterwards (invertedOutcome (inverted a)) (now (out .entry)) (invertedValue (inverted a)) ⌝ }
 {
     let i = field::inverse(a);
     let number = answer::number(field::outcome(i));
@@ -45,15 +46,26 @@ pub extern "C" fn span_inverse(a: u8, out: &mut u8) -> u8
 
 #[no_mangle]
 pub extern "C" fn span_block(key: &[u8], counter: u32, nonce: &[u8], out: &mut [u8]) -> u8
-    ensures number { λ r. ⌜ r ≡ outcomeNumber (blockAnswer (now (key .entry)) (now (nonce .entry)) (now (out .entry))) ⌝ }
-    ensures output { λ _. ⌜ now (out .exit) ≡ blockOut (now (key .entry)) counter (now (nonce .entry)) (now (out .entry)) ⌝ }
+    ensures number { λ r.
+        let key = now (key .entry) in
+        let nonce = now (nonce .entry) in
+        let out = now (out .entry) in
+        ⌜ r ≡ outcomeNumber (blockAnswer key nonce out) ⌝ }
+    ensures output { λ _.
+        let key = now (key .entry) in
+        let nonce = now (nonce .entry) in
+        ⌜ now (out .exit) ≡ blockOut key counter nonce (now (out .entry)) ⌝ }
 {
     answer::number(keystream::block(key, counter, nonce, out))
 }
 
 #[no_mangle]
 pub extern "C" fn span_vector(key: &[u8], id: &[u8], n: usize, m: usize, out: &mut [u8]) -> u8
-    ensures number { λ r. ⌜ r ≡ outcomeNumber (vectorAnswer (now (key .entry)) (now (id .entry)) n m (now (out .entry))) ⌝ }
+    ensures number { λ r.
+        let key = now (key .entry) in
+        let id = now (id .entry) in
+        let out = now (out .entry) in
+        ⌜ r ≡ outcomeNumber (vectorAnswer key id n m out) ⌝ }
     ensures output { λ _. ⌜ now (out .exit) ≡ vectorOut (now (key .entry)) (now (id .entry)) n m (now (out .entry)) ⌝ }
 {
     answer::number(tag::vector(key, id, n, m, out))
@@ -67,8 +79,17 @@ pub extern "C" fn span_setup(
     n: usize,
     auxiliary: &mut [u8],
 ) -> u8
-    ensures number { λ r. ⌜ r ≡ outcomeNumber (setupAnswer (now («tag_key» .entry)) (now («mask_key» .entry)) (now (id .entry)) n (now (auxiliary .entry))) ⌝ }
-    ensures output { λ _. ⌜ now (auxiliary .exit) ≡ setupOut (now («tag_key» .entry)) (now («mask_key» .entry)) (now (id .entry)) n (now (auxiliary .entry)) ⌝ }
+    ensures number { λ r.
+        let tagKey = now («tag_key» .entry) in
+        let maskKey = now («mask_key» .entry) in
+        let id = now (id .entry) in
+        let auxiliary = now (auxiliary .entry) in
+        ⌜ r ≡ outcomeNumber (setupAnswer tagKey maskKey id n auxiliary) ⌝ }
+    ensures output { λ _.
+        let tagKey = now («tag_key» .entry) in
+        let maskKey = now («mask_key» .entry) in
+        let id = now (id .entry) in
+        ⌜ now (auxiliary .exit) ≡ setupOut tagKey maskKey id n (now (auxiliary .entry)) ⌝ }
 {
     answer::number(mask::setup(tag_key, mask_key, id, n, auxiliary))
 }
@@ -81,8 +102,17 @@ pub extern "C" fn span_unmask(
     response: &[u8],
     out: &mut [u8],
 ) -> u8
-    ensures number { λ r. ⌜ r ≡ outcomeNumber (unmaskAnswer n (now (id .entry)) (now («mask_key» .entry)) (now (response .entry)) (now (out .entry))) ⌝ }
-    ensures output { λ _. ⌜ now (out .exit) ≡ unmaskOut n (now (id .entry)) (now («mask_key» .entry)) (now (response .entry)) (now (out .entry)) ⌝ }
+    ensures number { λ r.
+        let id = now (id .entry) in
+        let maskKey = now («mask_key» .entry) in
+        let response = now (response .entry) in
+        let out = now (out .entry) in
+        ⌜ r ≡ outcomeNumber (unmaskAnswer n id maskKey response out) ⌝ }
+    ensures output { λ _.
+        let id = now (id .entry) in
+        let maskKey = now («mask_key» .entry) in
+        let response = now (response .entry) in
+        ⌜ now (out .exit) ≡ unmaskOut n id maskKey response (now (out .entry)) ⌝ }
 {
     answer::number(message::unmask(n, id, mask_key, response, out))
 }
@@ -94,8 +124,15 @@ pub extern "C" fn span_challenge(
     coefficients: &[u8],
     message: &mut [u8],
 ) -> u8
-    ensures number { λ r. ⌜ r ≡ outcomeNumber (challengeAnswer (challengeFor node (now (places .entry)) (now (coefficients .entry))) (now (message .entry))) ⌝ }
-    ensures output { λ _. ⌜ now (message .exit) ≡ challengeOut (challengeFor node (now (places .entry)) (now (coefficients .entry))) (now (message .entry)) ⌝ }
+    ensures number { λ r.
+        let places = now (places .entry) in
+        let coefficients = now (coefficients .entry) in
+        let message = now (message .entry) in
+        ⌜ r ≡ outcomeNumber (challengeAnswer (challengeFor node places coefficients) message) ⌝ }
+    ensures output { λ _.
+        let places = now (places .entry) in
+        let coefficients = now (coefficients .entry) in
+        ⌜ now (message .exit) ≡ challengeOut (challengeFor node places coefficients) (now (message .entry)) ⌝ }
 {
     answer::number(message::challenge(node, places, coefficients, message))
 }
@@ -112,7 +149,14 @@ pub extern "C" fn span_verdict(
     message: &[u8],
     response: &[u8],
 ) -> u8
-    ensures { λ r. ⌜ r ≡ judgementNumber (verdictOf (now (key .entry)) (now (id .entry)) (record { n = n; m = m; places = places; nodes = nodes }) (now (rows .entry)) (now (message .entry)) (now (response .entry))) ⌝ }
+    ensures { λ r.
+        let key = now (key .entry) in
+        let id = now (id .entry) in
+        let rows = now (rows .entry) in
+        let message = now (message .entry) in
+        let response = now (response .entry) in
+        ⌜ r
+        ≡ judgementNumber (verdictOf key id (record { n = n; m = m; places = places; nodes = nodes }) rows message response) ⌝ }
 {
     audit::number(audit::verdict(key, id, n, m, places, nodes, rows, message, response))
 }
@@ -126,8 +170,14 @@ pub extern "C" fn span_open(
     id: &[u8],
     archive: &mut [u8],
 ) -> u8
-    ensures number { λ r. ⌜ r ≡ outcomeNumber (openAnswer (record { n = n; m = m; places = places; nodes = nodes }) (now (id .entry)) (now (archive .entry))) ⌝ }
-    ensures output { λ _. ⌜ now (archive .exit) ≡ openOut (record { n = n; m = m; places = places; nodes = nodes }) (now (id .entry)) (now (archive .entry)) ⌝ }
+    ensures number { λ r.
+        let id = now (id .entry) in
+        let archive = now (archive .entry) in
+        ⌜ r ≡ outcomeNumber (openAnswer (record { n = n; m = m; places = places; nodes = nodes }) id archive) ⌝ }
+    ensures output { λ _.
+        let id = now (id .entry) in
+        ⌜ now (archive .exit)
+        ≡ openOut (record { n = n; m = m; places = places; nodes = nodes }) id (now (archive .entry)) ⌝ }
 {
     answer::number(archive::open(n, m, places, nodes, id, archive))
 }
@@ -142,8 +192,19 @@ pub extern "C" fn span_encode(
     tag_key: &[u8],
     row: &[u8],
 ) -> u8
-    ensures number { λ r. ⌜ r ≡ outcomeNumber (archiveAnswer (now (archive .entry)) (Calls.encode node place (now (file .entry)) (now (padding .entry)) (now («tag_key» .entry)) (now (row .entry)))) ⌝ }
-    ensures output { λ _. ⌜ now (archive .exit) ≡ archiveAfter (now (archive .entry)) (Calls.encode node place (now (file .entry)) (now (padding .entry)) (now («tag_key» .entry)) (now (row .entry))) ⌝ }
+    ensures number { λ r.
+        let archive = now (archive .entry) in
+        let file = now (file .entry) in
+        let padding = now (padding .entry) in
+        let tagKey = now («tag_key» .entry) in
+        let row = now (row .entry) in
+        ⌜ r ≡ outcomeNumber (archiveAnswer archive (Calls.encode node place file padding tagKey row)) ⌝ }
+    ensures output { λ _.
+        let file = now (file .entry) in
+        let padding = now (padding .entry) in
+        let tagKey = now («tag_key» .entry) in
+        let row = now (row .entry) in
+        ⌜ now (archive .exit) ≡ archiveAfter (now (archive .entry)) (Calls.encode node place file padding tagKey row) ⌝ }
 {
     answer::number(coding::encode(archive, node, place, file, padding, tag_key, row))
 }
@@ -165,8 +226,21 @@ pub extern "C" fn span_prove(
     message: &[u8],
     response: &mut [u8],
 ) -> u8
-    ensures number { λ r. ⌜ r ≡ outcomeNumber (proveAnswer (now (archive .entry)) (now («mask_key» .entry)) (now (auxiliary .entry)) (now (seed .entry)) (now (message .entry)) (now (response .entry))) ⌝ }
-    ensures output { λ _. ⌜ now (response .exit) ≡ proveOut (now (archive .entry)) (now («mask_key» .entry)) (now (auxiliary .entry)) (now (seed .entry)) (now (message .entry)) (now (response .entry)) ⌝ }
+    ensures number { λ r.
+        let archive = now (archive .entry) in
+        let maskKey = now («mask_key» .entry) in
+        let auxiliary = now (auxiliary .entry) in
+        let seed = now (seed .entry) in
+        let message = now (message .entry) in
+        let response = now (response .entry) in
+        ⌜ r ≡ outcomeNumber (proveAnswer archive maskKey auxiliary seed message response) ⌝ }
+    ensures output { λ _.
+        let archive = now (archive .entry) in
+        let maskKey = now («mask_key» .entry) in
+        let auxiliary = now (auxiliary .entry) in
+        let seed = now (seed .entry) in
+        let message = now (message .entry) in
+        ⌜ now (response .exit) ≡ proveOut archive maskKey auxiliary seed message (now (response .entry)) ⌝ }
 {
     answer::number(proving::prove(archive, mask_key, auxiliary, seed, message, response))
 }
@@ -181,9 +255,26 @@ pub extern "C" fn span_repair(
     thetas: &[u8],
     scratch: &mut [u8],
 ) -> u8
-    ensures number { λ r. ⌜ r ≡ outcomeNumber (archiveAnswer (now (archive .entry)) (Calls.repair target (now (helpers .entry)) q (now (gammas .entry)) (now (thetas .entry)) (length (now (scratch .entry))))) ⌝ }
-    ensures output { λ _. ⌜ now (archive .exit) ≡ archiveAfter (now (archive .entry)) (Calls.repair target (now (helpers .entry)) q (now (gammas .entry)) (now (thetas .entry)) (length (now (scratch .entry)))) ⌝ }
-    ensures blocks { λ _. ⌜ now (scratch .exit) ≡ scratchAfter (now (archive .entry)) target (now (helpers .entry)) q (now (gammas .entry)) (now (thetas .entry)) (now (scratch .entry)) ⌝ }
+    ensures number { λ r.
+        let archive = now (archive .entry) in
+        let helpers = now (helpers .entry) in
+        let gammas = now (gammas .entry) in
+        let thetas = now (thetas .entry) in
+        let scratch = now (scratch .entry) in
+        ⌜ r ≡ outcomeNumber (archiveAnswer archive (Calls.repair target helpers q gammas thetas (length scratch))) ⌝ }
+    ensures output { λ _.
+        let helpers = now (helpers .entry) in
+        let gammas = now (gammas .entry) in
+        let thetas = now (thetas .entry) in
+        let scratch = now (scratch .entry) in
+        ⌜ now (archive .exit)
+        ≡ archiveAfter (now (archive .entry)) (Calls.repair target helpers q gammas thetas (length scratch)) ⌝ }
+    ensures blocks { λ _.
+        let archive = now (archive .entry) in
+        let helpers = now (helpers .entry) in
+        let gammas = now (gammas .entry) in
+        let thetas = now (thetas .entry) in
+        ⌜ now (scratch .exit) ≡ scratchAfter archive target helpers q gammas thetas (now (scratch .entry)) ⌝ }
 {
     answer::number(coding::repair(archive, target, helpers, q, gammas, thetas, scratch))
 }
@@ -204,14 +295,18 @@ fn tell(answer: Counted, value: &mut u8) -> u8
 
 #[no_mangle]
 pub extern "C" fn span_inventory(archive: &[u8], list: &mut [u8], count: &mut u8) -> u8
-    ensures { λ r. ⌜ CountedAnswer (λ answer. InventoryAllows (now (archive .entry)) (now (list .entry)) answer (now (list .exit))) r (now (count .entry)) (now (count .exit)) ⌝ }
+    ensures { λ r.
+        let archive = now (archive .entry) in
+        ⌜ CountedAnswer (λ answer. InventoryAllows archive (now (list .entry)) answer (now (list .exit))) r (now (count .entry)) (now (count .exit)) ⌝ }
 {
     tell(archive::inventory(archive, list), count)
 }
 
 #[no_mangle]
 pub extern "C" fn span_read(archive: &[u8], file: &mut [u8], consulted: &mut u8) -> u8
-    ensures { λ r. ⌜ CountedAnswer (λ answer. ReadAllows (now (archive .entry)) (now (file .entry)) answer (now (file .exit))) r (now (consulted .entry)) (now (consulted .exit)) ⌝ }
+    ensures { λ r.
+        let archive = now (archive .entry) in
+        ⌜ CountedAnswer (λ answer. ReadAllows archive (now (file .entry)) answer (now (file .exit))) r (now (consulted .entry)) (now (consulted .exit)) ⌝ }
 {
     tell(reading::read(archive, file), consulted)
 }

@@ -58,8 +58,13 @@ pub fn key_stream(tag_key: &[u8], id: &[u8]) -> Stream
 
 // The first 64 times `count` elements of that vector at the front of out: the same door, block by block.
 pub fn key_vector_into(tag_key: &[u8], id: &[u8], out: &mut [u8], count: usize)
-    requires { ⌜ (length (now «tag_key») ≡ keyLength) × (length (now id) ≡ idLength) × (64 * count ≤ length (now out)) ⌝ }
-    ensures { λ _. ⌜ now (out .exit) ≡ put (64 * count) 0 (keyVector (now («tag_key» .entry)) (now (id .entry))) (now (out .entry)) ⌝ }
+    requires { ⌜ (length (now «tag_key») ≡ keyLength)
+        × (length (now id) ≡ idLength)
+        × (64 * count ≤ length (now out)) ⌝ }
+    ensures { λ _.
+        let tagKey = now («tag_key» .entry) in
+        let id = now (id .entry) in
+        ⌜ now (out .exit) ≡ put (64 * count) 0 (keyVector tagKey id) (now (out .entry)) ⌝ }
 {
     keystream::fill(key_array(tag_key), id_nonce(1, 0, 0, 0, id), out, count);
 }
@@ -119,7 +124,10 @@ fn vector_check(tag_key: &[u8], id: &[u8], n: usize, m: usize, out: &[u8]) -> Ou
 // The key vector of n + m elements.
 pub fn vector(tag_key: &[u8], id: &[u8], n: usize, m: usize, out: &mut [u8]) -> Outcome
     ensures answer { λ r. ⌜ r ≡ vectorAnswer (now («tag_key» .entry)) (now (id .entry)) n m (now (out .entry)) ⌝ }
-    ensures output { λ _. ⌜ now (out .exit) ≡ vectorOut (now («tag_key» .entry)) (now (id .entry)) n m (now (out .entry)) ⌝ }
+    ensures output { λ _.
+        let tagKey = now («tag_key» .entry) in
+        let id = now (id .entry) in
+        ⌜ now (out .exit) ≡ vectorOut tagKey id n m (now (out .entry)) ⌝ }
 {
     let answer = vector_check(tag_key, id, n, m, out);
     if let Outcome::Done = answer {

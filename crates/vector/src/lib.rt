@@ -30,8 +30,14 @@ fn add_raised(
     from: usize,
     len: usize,
 )
-    requires { ⌜ PowerTable (now powers) × LogTable (now logs) × (k < 255) × (first + len ≤ length (now u)) × (from + len ≤ length (now out)) ⌝ }
-    ensures { λ _. ⌜ now (out .exit) ≡ added len from (λ e. times (power 3 k) (at (now (u .entry)) (first + e))) (now (out .entry)) ⌝ }
+    requires { ⌜ PowerTable (now powers)
+        × LogTable (now logs)
+        × (k < 255)
+        × (first + len ≤ length (now u))
+        × (from + len ≤ length (now out)) ⌝ }
+    ensures { λ _.
+        let u = now (u .entry) in
+        ⌜ now (out .exit) ≡ added len from (λ e. times (power 3 k) (at u (first + e))) (now (out .entry)) ⌝ }
 {
     for e in 0..len {
         out[from + e] = out[from + e] ^ field::raised(powers, logs, k, u[first + e]);
@@ -49,8 +55,13 @@ pub fn add_multiple(
     from: usize,
     len: usize,
 )
-    requires { ⌜ PowerTable (now powers) × LogTable (now logs) × (first + len ≤ length (now u)) × (from + len ≤ length (now out)) ⌝ }
-    ensures { λ _. ⌜ now (out .exit) ≡ added len from (λ e. times c (at (now (u .entry)) (first + e))) (now (out .entry)) ⌝ }
+    requires { ⌜ PowerTable (now powers)
+        × LogTable (now logs)
+        × (first + len ≤ length (now u))
+        × (from + len ≤ length (now out)) ⌝ }
+    ensures { λ _.
+        let u = now (u .entry) in
+        ⌜ now (out .exit) ≡ added len from (λ e. times c (at u (first + e))) (now (out .entry)) ⌝ }
 {
     if c != 0 {
         add_raised(powers, logs, field::log(logs, c), u, first, out, from, len);
@@ -72,8 +83,16 @@ pub fn combine(
     from: usize,
     len: usize,
 )
-    requires { ⌜ PowerTable (now powers) × LogTable (now logs) × (0 < count → first + (count - 1) * step < length (now c)) × (start + count * len ≤ length (now u)) × (from + len ≤ length (now out)) ⌝ }
-    ensures { λ _. ⌜ now (out .exit) ≡ added len from (mixed count (λ i. at (now (c .entry)) (first + i * step)) (λ i e. at (now (u .entry)) (start + i * len + e))) (now (out .entry)) ⌝ }
+    requires { ⌜ PowerTable (now powers)
+        × LogTable (now logs)
+        × (0 < count → first + (count - 1) * step < length (now c))
+        × (start + count * len ≤ length (now u))
+        × (from + len ≤ length (now out)) ⌝ }
+    ensures { λ _.
+        let c = now (c .entry) in
+        let u = now (u .entry) in
+        ⌜ now (out .exit)
+        ≡ added len from (mixed count (λ i. at c (first + i * step)) (λ i e. at u (start + i * len + e))) (now (out .entry)) ⌝ }
 {
     for i in 0..count {
         add_multiple(
