@@ -1,21 +1,58 @@
-/* The span archive's operations for C (link target/staticlib/libspan.a, which `rt staticlib span` makes).
+/* The span archive's operations for C and C++ (link target/staticlib/libspan.a, which `rt staticlib span` makes).
 
-   A byte slice is a pointer, never NULL, and a length. Every buffer is the caller's, before and after the call; nothing is kept. Two
-   buffers of one call must not overlap where one of them is written. Any bytes, lengths and numbers may be passed. A function returns
-   0 when it is done, else the first refusal below that applies, in the order given, and then every lent byte is as it was:
+   A byte slice is a pointer, never NULL, and its length, exactly. Every buffer is the caller's, before and after the call; nothing is kept. Two
+   buffers of one call must not overlap where one of them is written. Any bytes, lengths and numbers may be passed. A function returns SPAN_DONE,
+   else the first refusal below that applies, in the order given with it, and then every lent byte is as it was. docs/SCHEME.md has the whole
+   scheme; a node is what it calls a box.
 
-       1 a size outside its range       6 a place that would be filled is filled
-       2 a buffer of wrong length       7 the first n-2 key elements are all zero
-       3 a bad archive                  8 the filled rows do not determine the file
-       4 no such node or place          9 a malformed message
-       5 a needed place is empty       10 the element is zero
+   Threads: the library has no writable data of its own, so calls on different buffers may run at once. Alignment: none is asked for. Stack: 12 KiB
+   are enough at any sizes (measured by tests/run, not proved). Mapped memory: an archive may be a mapped file; a fault in it is the caller's.
+   Timing: it depends on lengths, sizes, marks, rows, coefficients and data; nothing is constant-time.
 
-   A node is what the office's paper calls a box. n is 3 to 1,024, m 1 to 16, places 1 to 8, nodes 1 to 6. Keys have 32 bytes, ids 8. */
+   The bytes of an archive: 4 of packed sizes (layout 1 in 4 bits, n in 11, m in 5, places in 4, nodes in 3, five zero bits), the id from byte 4,
+   48 fill marks from byte 12 (that of node b, place p is bit b*places+p, from the top), then from byte 18 on nodes*places records of n+m+1 bytes:
+   n data elements, the row of m, the tag. */
 #ifndef SPAN_ARCHIVE_H
 #define SPAN_ARCHIVE_H
 
 #include <stddef.h>
 #include <stdint.h>
+
+/* Answers. */
+#define SPAN_DONE 0
+#define SPAN_WRONG_SIZE 1     /* a size outside its range: n 3 to 1,024, m 1 to 16, places 1 to 8, nodes 1 to 6 */
+#define SPAN_WRONG_LENGTH 2   /* a buffer that has not exactly its length */
+#define SPAN_BAD_ARCHIVE 3
+#define SPAN_NO_SUCH_PLACE 4  /* nor node */
+#define SPAN_PLACE_EMPTY 5    /* a place that is needed */
+#define SPAN_PLACE_FILLED 6   /* a place that would be filled */
+#define SPAN_ZERO_KEY 7       /* a tag key whose first n-2 key elements are zero */
+#define SPAN_UNREADABLE 8     /* the filled rows do not determine the file */
+#define SPAN_MALFORMED 9      /* a message, or fields that no challenge has */
+#define SPAN_ZERO_INVERSE 10
+#define SPAN_REJECTED 255     /* span_verdict alone: no refusal */
+
+/* Lengths, exact ones, in bytes. */
+#define SPAN_KEY_BYTES 32
+#define SPAN_NONCE_BYTES 12
+#define SPAN_STREAM_BLOCK_BYTES 64
+#define SPAN_ID_BYTES 8
+#define SPAN_SEED_BYTES 11
+#define SPAN_VECTOR_BYTES(n, m) ((n) + (m))
+#define SPAN_AUXILIARY_BYTES(n) ((n)-1)
+#define SPAN_FILE_BYTES(n, m) ((m) * ((n)-2))
+#define SPAN_PADDING_BYTES(m) (2 * (m))
+#define SPAN_RECORD_BYTES(n, m) ((n) + (m) + 1)
+#define SPAN_ARCHIVE_BYTES(n, m, places, nodes) (18 + (nodes) * (places)*SPAN_RECORD_BYTES(n, m))
+#define SPAN_COEFFICIENT_BYTES(helpers, q, places) ((helpers) * (q) * (places))
+#define SPAN_SCRATCH_BYTES(helpers, q, n, m) ((helpers) * (q)*SPAN_RECORD_BYTES(n, m))
+#define SPAN_CHALLENGE_BYTES(count) ((11 * ((count) + 1) + 7) / 8)
+#define SPAN_ROWS_BYTES(places, m) ((places) * (m))
+#define SPAN_RESPONSE_BYTES(n) ((n) + 14)
+
+#ifdef __cplusplus
+extern "C" {
+#endif
 
 /* The product in GF(2^8) itself; refuses nothing. */
 uint8_t span_multiply(uint8_t a, uint8_t b);
@@ -83,5 +120,9 @@ uint8_t span_inventory(const uint8_t *archive, size_t archive_len, uint8_t *list
 /* The file of m(n-2) bytes, solved from the first filled places, by node, then place, whose rows determine it; how many filled places were
    consulted into *consulted. Tags are not examined: of damaged records it gives some file, without a refusal. Refuses 3, 2, 8. */
 uint8_t span_read(const uint8_t *archive, size_t archive_len, uint8_t *file, size_t file_len, uint8_t *consulted);
+
+#ifdef __cplusplus
+}
+#endif
 
 #endif

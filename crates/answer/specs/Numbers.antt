@@ -1,7 +1,8 @@
--- Document 01's numbers: "a refusal returns its number alone".
+-- The number of each refusal (SCHEME, Refusals).
 use Prim.Native.Nat.{ℕ}
 use Rattle.answer.specs.declared.Refusal.{Refusal}
-use Rattle.answer.specs.declared.Refusal.the-variants.{Size, Length, BadArchive, NoSuchPlace, PlaceEmpty, PlaceFilled, ZeroKeyVector, Unreadable, Malformed, ZeroInverse}
+use Rattle.answer.specs.declared.Refusal.the-variants.{Size, Length, BadArchive, NoSuchPlace, PlaceEmpty}
+use Rattle.answer.specs.declared.Refusal.the-variants.{PlaceFilled, ZeroKeyVector, Unreadable, Malformed, ZeroInverse}
 use Rattle.answer.specs.declared.Outcome.{Outcome}
 use Rattle.answer.specs.declared.Outcome.the-variants.{Done, Refused}
 

@@ -1,4 +1,4 @@
--- The first refusal in document 01's order, and what a lent buffer holds after the call.
+-- The first refusal in an operation's order, and what a lent buffer holds after the call (SCHEME, Refusals).
 use Prim.Native.Nat.{ℕ}
 use mathlib.Core.Path.{_≡_}
 use mathlib.Core.Bool.{Bool, true, false, not}
@@ -18,7 +18,7 @@ refuse false r next = next
 abbrev pub Passed : (o : Outcome) → Type 0
 Passed o = o ≡ Done
 
--- "A refusal returns its number alone, and all lent memory keeps its bytes": the bytes before, or what the work writes
+-- what stands in a lent buffer after the call: what the work writes, or what stood there before
 unfoldable pub afterwards : {A : Type 0} → Outcome → A → A → A
 afterwards Done before written = written
 afterwards (Refused r) before written = before

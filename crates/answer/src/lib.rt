@@ -1,10 +1,10 @@
-// What an operation answers: done, or the first refusal of document 01 that applies.
+// What an operation answers: done, or the first refusal that applies.
 ghost use mathlib.Core.Path.{_≡_};
 ghost use Rattle.answer.specs.Numbers.{refusalNumber, outcomeNumber};
 ghost use Rattle.answer.specs.Refusals as Refusals;
 ghost use Rattle.answer.specs.Counted.{countedNumber};
 
-// The ten refusals, in the order of document 01's numbers, from 1.
+// The ten refusals, in the order of their numbers, from 1.
 pub enum Refusal {
     // 1: a size outside its range.
     Size,
@@ -12,13 +12,13 @@ pub enum Refusal {
     Length,
     // 3: a bad archive.
     BadArchive,
-    // 4: no such node (document 01: box) or place.
+    // 4: no such node (the scheme: box) or place.
     NoSuchPlace,
     // 5: a place that must be filled is empty.
     PlaceEmpty,
     // 6: a place that would be filled is filled.
     PlaceFilled,
-    // 7: the first n-2 key elements are all zero.
+    // 7: a tag key whose first n-2 key elements are zero.
     ZeroKeyVector,
     // 8: the filled rows do not determine the file.
     Unreadable,
@@ -40,7 +40,7 @@ pub fn outside(lo: usize, hi: usize, x: usize) -> bool
     (x < lo) | (hi < x)
 }
 
-// Document 01's number of a refusal.
+// The number of a refusal.
 pub fn refusal_number(r: Refusal) -> u8
     ensures { λ n. ⌜ n ≡ refusalNumber r ⌝ }
 {

@@ -1,4 +1,4 @@
--- A call of Encode, Lose or Repair: its answer, the archive after it, and lists of calls.
+-- A call of Encode, Lose or Repair: its answer, the archive after it, and lists of calls (SCHEME, Operations, Row table).
 use Prim.Native.Nat.{ℕ}
 use mathlib.Core.Bool.{Bool}
 use mathlib.Core.List.{List, [], _∷_}
@@ -42,9 +42,10 @@ archiveAfter s c = afterwards (archiveAnswer s c) s (effectFor (sizesOf s) (idOf
 
 unfoldable pub scratchAfter : (s : List ℕ) (target : ℕ) (helpers : List ℕ) (q : ℕ) (gammas thetas scratch : List ℕ) → List ℕ
 scratchAfter s target helpers q gammas thetas scratch =
-    afterwards (archiveAnswer s (repair target helpers q gammas thetas (length scratch))) scratch (scratchMade (sizesOf s) s helpers q gammas)
+    afterwards (archiveAnswer s (repair target helpers q gammas thetas (length scratch))) scratch
+    (scratchMade (sizesOf s) s helpers q gammas)
 
--- ---- a list of calls; demand 3: "Each call gets the archive as the last one left it"
+-- ---- a list of calls: each is handed what the one before it left
 
 abbrev pub archiveAnswers : List ℕ → List Call → List Outcome
 archiveAnswers s [] = []

@@ -1,4 +1,4 @@
--- The operation Encode, on an archive that is not bad: `filled` tells which places are.
+-- The operation Encode (SCHEME, Operations), on an archive that is not bad: `filled` tells which places are.
 use Prim.Native.Nat.{ℕ}
 use mathlib.Core.Bool.{Bool, true}
 use mathlib.Core.List.{List, [], _∷_}
@@ -15,7 +15,7 @@ use Rattle.tag.specs.KeyVector.{keyVector}
 use Rattle.archive.specs.Layout.{stored}
 use Rattle.archive.specs.Blocks.{codedRecord}
 
--- "2, a length; 4, no such box or place; 6, place filled"
+-- refuses, after 3: 2, 4, 6
 abbrev pub encodeFor : (z : Sizes) (filled : ℕ → ℕ → Bool) (node place : ℕ) (file padding tagKey row : List ℕ) → Outcome
 encodeFor z filled node place file padding tagKey row =
     refuse

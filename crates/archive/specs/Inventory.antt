@@ -1,4 +1,4 @@
--- Inventory "writes 8·box+place for every filled place, each just once, order free, zeros up to N·M bytes, and returns the number. 3; 2."
+-- The operation Inventory (SCHEME, Operations), a relation: the order of its list is free. Refuses 3, 2.
 use Prim.Native.Nat.{ℕ, _+_, _*_, _/_, _%_, _<_, _≤_}
 use mathlib.Core.Path.{_≡_}
 use mathlib.Core.Bool.{Bool}

@@ -1,4 +1,4 @@
--- Document 01, "Bytes of an archive": a whole archive, what is read back, what makes an archive bad, and one definition of a store.
+-- The bytes of an archive (SCHEME, Archive): a whole one, what is read back, what makes one bad, and one definition of a store.
 use Prim.Native.Nat.{ℕ, _+_}
 use mathlib.Core.Bool.{Bool, false}
 use mathlib.Core.List.{List, [], _∷_, _++_}
@@ -9,15 +9,16 @@ use Rattle.answer.specs.Refusals.{differs}
 use Rattle.bits.specs.Fields.{BitField, _wide_, pack, packed, bitAt, fieldAt}
 use Rattle.sizes.specs.declared.Sizes.{Sizes}
 use Rattle.sizes.specs.Sizes.{sizesOutside}
-use Rattle.sizes.specs.Lengths.{placeCount, recordLength, archiveLength, placeNumber, recordStart, idLength, idStart, marksStart, marksLength, firstMark, markCount}
+use Rattle.sizes.specs.Lengths.{placeCount, recordLength, archiveLength, placeNumber, recordStart, idLength}
+use Rattle.sizes.specs.Lengths.{idStart, marksStart, marksLength, firstMark, markCount}
 
 -- ---- writing
 
--- "layout, 4 bits, value 1; n, 11; m, 5; M, 4; N, 3; five zero bits"
+-- layout 1, the four sizes, spare bits: 32 bits
 abbrev pub sizeFields : (z : Sizes) → List BitField
 sizeFields z = (4 wide 1) ∷ (11 wide z .n) ∷ (5 wide z .m) ∷ (4 wide z .places) ∷ (3 wide z .nodes) ∷ (5 wide 0) ∷ []
 
--- a whole archive: those 32 bits, "id, 64; fill marks, 48", then the records; rec k p is byte p of record k
+-- a whole archive: those 32 bits, the id, the fill marks, then the records; rec k p is byte p of record k
 unfoldable pub archiveOf : (z : Sizes) (id : List ℕ) (mark : ℕ → Bool) (rec : ℕ → ℕ → ℕ) → List ℕ
 archiveOf z id mark rec = pack (sizeFields z) ++ (id ++ (packed marksLength mark ++ flat (placeCount z) (recordLength z) rec))
 
@@ -29,7 +30,7 @@ sizesOf s = record { n = fieldAt s 4 11; m = fieldAt s 15 5; places = fieldAt s 
 unfoldable pub idOf : (s : List ℕ) → List ℕ
 idOf s = take idLength (drop idStart s)
 
--- fill mark k: "the mark of box b, place p being bit b·M+p"
+-- fill mark k, that of place number k
 unfoldable pub markAt : (s : List ℕ) (k : ℕ) → Bool
 markAt s k = bitAt s (firstMark + k)
 
@@ -40,7 +41,7 @@ filledIn z s node place = markAt s (placeNumber z node place)
 unfoldable pub byteIn : (z : Sizes) (s : List ℕ) (k p : ℕ) → ℕ
 byteIn z s k p = at s (recordStart z k + p)
 
--- "A bad archive breaks one of these rules; record contents are not examined"
+-- layout, sizes, spare bits, unused marks, length; records are not looked at
 unfoldable pub badFor : (z : Sizes) (s : List ℕ) → Bool
 badFor z s =
     anyOf

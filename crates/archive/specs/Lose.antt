@@ -1,4 +1,4 @@
--- The operation Lose, on an archive that is not bad.
+-- The operation Lose (SCHEME, Operations), on an archive that is not bad.
 use Prim.Native.Nat.{ℕ}
 use mathlib.Core.Bool.{false}
 use mathlib.Core.List.{List}
@@ -11,7 +11,7 @@ use Rattle.sizes.specs.declared.Sizes.{Sizes}
 use Rattle.sizes.specs.Lengths.{placeNumber}
 use Rattle.archive.specs.Layout.{stored}
 
--- "4"
+-- refuses, after 3: 4
 abbrev pub loseFor : (z : Sizes) (node : ℕ) → Outcome
 loseFor z node = refuse (leb (z .nodes) node) NoSuchPlace Done
 

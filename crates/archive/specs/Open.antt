@@ -1,4 +1,4 @@
--- The operation Open.
+-- The operation Open (SCHEME, Operations).
 use Prim.Native.Nat.{ℕ}
 use mathlib.Core.Bool.{false}
 use mathlib.Core.List.{List, [], _∷_}
@@ -13,7 +13,7 @@ use Rattle.sizes.specs.Sizes.{sizesOutside}
 use Rattle.sizes.specs.Lengths.{archiveLength, idLength}
 use Rattle.archive.specs.Layout.{archiveOf}
 
--- Open "writes the header with no marks, and zero records. 1, a size outside its range; 2, the length of id or archive"
+-- no marks, and records of zeros; refuses 1, 2
 
 unfoldable pub opened : (z : Sizes) (id : List ℕ) → List ℕ
 opened z id = archiveOf z id (λ k. false) (λ k p. 0)

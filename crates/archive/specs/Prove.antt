@@ -1,6 +1,4 @@
--- Prove "takes archive, mask key, auxiliary elements, seed and challenge, and writes the response for the blocks and tags of the named
--- places, combined by the challenge, with the mask added to the first n−2 elements and the mask sum made from the auxiliary elements
--- lent. 3; 9, malformed challenge; 2, a length; 4, box or a place; 5, a named place empty."
+-- The operation Prove (SCHEME, Operations). Refuses 3, 9, 2, 4, 5.
 use Prim.Native.Nat.{ℕ, _-_}
 use mathlib.Core.Bool.{Bool, not}
 use mathlib.Core.List.{List, [], _∷_}
@@ -21,7 +19,13 @@ use Rattle.archive.specs.Layout.{sizesOf, idOf, filledIn, byteIn, badArc
 -- the refusals once the header and the challenge are read
 unfoldable pub proveFor : (z : Sizes) (filled : ℕ → ℕ → Bool) (maskKey auxiliary seed : List ℕ) (c : Challenge) (out : List ℕ) → Outcome
 proveFor z filled maskKey auxiliary seed c out =
-    refuse (anyOf (differs (length maskKey) keyLength ∷ differs (length auxiliary) (auxiliaryLength (z .n)) ∷ differs (length seed) seedLength ∷ differs (length out) (responseLength (z .n)) ∷ [])) Length
+    refuse
+    (anyOf
+    (differs (length maskKey) keyLength
+    ∷ differs (length auxiliary) (auxiliaryLength (z .n))
+    ∷ differs (length seed) seedLength
+    ∷ differs (length out) (responseLength (z .n))
+    ∷ [])) Length
     (refuse (notThere z c) NoSuchPlace
     (refuse (anyBelow (length (c .places)) (λ j. not (filled (c .node) (at (c .places) j)))) PlaceEmpty
     Done))
@@ -35,7 +39,8 @@ proveAnswer s maskKey auxiliary seed message out =
 -- the response for a combined block and its tag
 unfoldable pub responseFor : (n : ℕ) (id maskKey auxiliary seed : List ℕ) (node : ℕ) (block : ℕ → ℕ) (tag : ℕ) → List ℕ
 responseFor n id maskKey auxiliary seed node block tag =
-    responseBytes n node block tag (mask n (maskCoefficient maskKey seed) (maskRow maskKey id)) seed (maskSum n (maskCoefficient maskKey seed) auxiliary)
+    responseBytes n node block tag (mask n (maskCoefficient maskKey seed) (maskRow maskKey id)) seed
+    (maskSum n (maskCoefficient maskKey seed) auxiliary)
 
 -- byte e of the named places' records, combined by the challenge
 unfoldable pub namedByte : (z : Sizes) (s : List ℕ) (c : Challenge) (e : ℕ) → ℕ
@@ -47,4 +52,5 @@ provedFor z id s maskKey auxiliary seed c =
 
 unfoldable pub proveOut : (s maskKey auxiliary seed message out : List ℕ) → List ℕ
 proveOut s maskKey auxiliary seed message out =
-    afterwards (proveAnswer s maskKey auxiliary seed message out) out (provedFor (sizesOf s) (idOf s) s maskKey auxiliary seed (challengeOf message))
+    afterwards (proveAnswer s maskKey auxiliary seed message out) out
+    (provedFor (sizesOf s) (idOf s) s maskKey auxiliary seed (challengeOf message))

@@ -1,4 +1,5 @@
--- Read, a relation between the bytes lent, the answer and the bytes afterwards: it leaves free just what document 01 does.
+-- The operation Read (SCHEME, Operations), a relation between the bytes lent, the answer and the bytes afterwards: only the number of
+-- places consulted is free. Refuses 3, 2, 8.
 use Prim.Native.Nat.{ℕ, _+_, _-_, _*_, _<_, _≤_}
 use mathlib.Core.Path.{_≡_}
 use mathlib.Core.Logic.{_⊎_, _≢_}
@@ -18,11 +19,11 @@ use Rattle.archive.specs.Layout.{sizesOf, markAt, byteIn, badArchive}
 use Rattle.answer.specs.declared.Counted.{Counted}
 use Rattle.answer.specs.declared.Counted.the-variants.{Count, Refused}
 
--- element i of the row of place number k: "A place's row here is the last m elements of its stored block"
+-- element i of the row of place number k, which stands at the end of its stored block
 abbrev pub rowIn : (z : Sizes) (s : List ℕ) (k i : ℕ) → ℕ
 rowIn z s k i = byteIn z s k (z .n + i)
 
--- "some non-zero vector of m elements is orthogonal to every" row of the places, by number, that are named; its elements are bytes
+-- a vector of m bytes, not all zero, that is orthogonal to the rows of all places, by number, that are named
 pub record Blind (z : Sizes) (named : ℕ → Bool) (row : ℕ → ℕ → ℕ) : Type 0 where
   pub v : ℕ → ℕ
   pub bytes : (i : ℕ) → i < z .m → v i < 256
@@ -31,7 +32,7 @@ pub record Blind (z : Sizes) (named : ℕ → Bool) (row : ℕ → ℕ → ℕ) 
   pub one-not : v one ≢ 0
   pub orthogonal : (k : ℕ) → k < placeCount z → named k ≡ true → product (z .m) (row k) v ≡ 0
 
--- ---- which places are taken: "Going by box, then place, it takes each filled place whose row is independent of those taken"
+-- ---- which places are taken, by node and then place
 
 -- row k is a combination of the taken rows before it
 abbrev pub Combined : (z : Sizes) (s : List ℕ) (taken : ℕ → Bool) (k : ℕ) → Type 0
@@ -44,7 +45,7 @@ pub record Takes (z : Sizes) (s : List ℕ) (count : ℕ) (taken : ℕ → Bool)
   pub independent : (k : ℕ) → k < count → taken k ≡ true → ¬ Combined z s taken k
   pub every : (k : ℕ) → k < count → markAt s k ≡ true → taken k ≡ false → Combined z s taken k
 
--- "and solves for the m blocks": of which the file is the first n−2 columns, block after block
+-- a file that solves the equations of the taken places: its m blocks of n - 2 bytes are the unknowns
 pub record Solved (z : Sizes) (s file : List ℕ) : Type 0 where
   pub taken : ℕ → Bool
   pub takes : Takes z s (placeCount z) taken
@@ -53,7 +54,7 @@ pub record Solved (z : Sizes) (s file : List ℕ) : Type 0 where
   pub solves : (k e : ℕ) → k < placeCount z → taken k ≡ true → e < z .n - 2
       → product (z .m) (rowIn z s k) (λ i. at file (i * (z .n - 2) + e)) ≡ byteIn z s k e
 
--- ---- the number of filled places consulted: "free, but at least m, at most all, and the first so many filled places alone must suffice"
+-- ---- the number of filled places consulted
 
 -- place k is one of the first `count` filled places
 abbrev pub among : (count : ℕ) (filled : ℕ → Bool) (k : ℕ) → Bool
@@ -64,7 +65,7 @@ pub record Enough (z : Sizes) (filled : ℕ → Bool) (row : ℕ → ℕ → ℕ
   pub most : count ≤ howMany (placeCount z) filled
   pub suffice : ¬ Blind z (among count filled) row
 
--- ---- "3; 2, output length; 8, some non-zero vector of m elements is orthogonal to every filled row"
+-- ---- refusals and the answer
 
 abbrev pub readBefore : (z : Sizes) (s out : List ℕ) → Outcome
 readBefore z s out = refuse (badArchive s) BadArchive (refuse (differs (length out) (fileLength z)) Length Done)

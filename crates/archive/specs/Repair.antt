@@ -1,4 +1,4 @@
--- The operation Repair, on an archive that is not bad: `filled` tells which places are.
+-- The operation Repair (SCHEME, Operations), on an archive that is not bad: `filled` tells which places are.
 use Prim.Native.Nat.{ℕ, _+_, _*_, _/_, _%_}
 use mathlib.Core.Bool.{Bool, true, not}
 use mathlib.Core.List.{List, [], _∷_}
@@ -15,9 +15,9 @@ use Rattle.sizes.specs.Lengths.{recordLength, placeNumber}
 use Rattle.vector.specs.Vectors.{mixed}
 use Rattle.archive.specs.Layout.{byteIn, stored}
 
--- "1, P or Q; 2, a length; 4, target or a helper; 6, any place of the target filled; 5, any place of a helper empty"; scratch is the length of
--- that buffer
-abbrev pub repairFor : (z : Sizes) (filled : ℕ → ℕ → Bool) (target : ℕ) (helpers : List ℕ) (q : ℕ) (gammas thetas : List ℕ) (scratch : ℕ) → Outcome
+-- refuses, after 3: 1, 2, 4, 6, 5; `scratch` is the length of that buffer
+abbrev pub repairFor :
+    (z : Sizes) (filled : ℕ → ℕ → Bool) (target : ℕ) (helpers : List ℕ) (q : ℕ) (gammas thetas : List ℕ) (scratch : ℕ) → Outcome
 repairFor z filled target helpers q gammas thetas scratch =
     let P : ℕ = length helpers in
     refuse (anyOf (outside 1 5 P ∷ outside 1 8 q ∷ [])) Size
@@ -32,23 +32,22 @@ repairFor z filled target helpers q gammas thetas scratch =
     (refuse (anyBelow P (λ i. anyBelow (z .places) (λ l. not (filled (at helpers i) l)))) PlaceEmpty
     Done))))
 
--- "gamma(i,j,l) stands at (iQ+j)M+l, theta(i,j,k) at (iQ+j)M+k"
+-- coefficient l of repair block (i,j), of the gammas or of the thetas, all counted from 0
 abbrev pub coefficient : (z : Sizes) (q : ℕ) (cs : List ℕ) (i j l : ℕ) → ℕ
 coefficient z q cs i j l = at cs ((i * q + j) * z .places + l)
 
--- the sum over helpers i and repair blocks j of theta(i,j,k) times the sum over places l of gamma(i,j,l) times what x gives for the
--- helper's place l
+-- what Repair makes, for target place k, of values x by node and place: combined by the gammas within each repair block, then by the thetas
 abbrev pub repairSum : (z : Sizes) (helpers : List ℕ) (q : ℕ) (gammas thetas : List ℕ) (k : ℕ) (x : ℕ → ℕ → ℕ) → ℕ
 repairSum z helpers q gammas thetas k x =
     sum (length helpers) (λ i. sum q (λ j.
     times (coefficient z q thetas i j k) (sum (z .places) (λ l. times (coefficient z q gammas i j l) (x (at helpers i) l)))))
 
--- "Repair block (i,j) is helper i's records, block and tag, combined by gamma(i,j,l)": its byte e
+-- byte e of repair block (i,j), tag included: the records of helper i combined by gamma(i,j,l) over l
 unfoldable pub repairByte : (z : Sizes) (s helpers : List ℕ) (q : ℕ) (gammas : List ℕ) (i j e : ℕ) → ℕ
 repairByte z s helpers q gammas i j e =
     mixed (z .places) (coefficient z q gammas i j) (λ l. byteIn z s (placeNumber z (at helpers i) l)) e
 
--- "target record k is all repair blocks, with tags, combined by theta(i,j,k)": its byte e
+-- byte e of the record of target place k: all repair blocks combined by theta(i,j,k)
 unfoldable pub targetByte : (z : Sizes) (s helpers : List ℕ) (q : ℕ) (gammas thetas : List ℕ) (k e : ℕ) → ℕ
 targetByte z s helpers q gammas thetas k e =
     sum (length helpers) (λ i. sum q (λ j. times (coefficient z q thetas i j k) (repairByte z s helpers q gammas i j e)))
@@ -58,6 +57,6 @@ abbrev pub repaired : (z : Sizes) (archive : List ℕ) (target : ℕ) (helpers :
 repaired z archive target helpers q gammas thetas =
     stored z true (placeNumber z target 0) (z .places) (targetByte z archive helpers q gammas thetas) archive
 
--- the scratch buffer "afterwards holds the repair blocks with tags, helper by helper": "repair block (i,j) at (iQ+j)(n+m+1)"
+-- what is left in the scratch buffer: the repair blocks, one after another, those of the first helper first
 unfoldable pub scratchMade : (z : Sizes) (s helpers : List ℕ) (q : ℕ) (gammas : List ℕ) → List ℕ
 scratchMade z s helpers q gammas = flat (length helpers * q) (recordLength z) (λ t. repairByte z s helpers q gammas (t / q) (t % q))

@@ -54,7 +54,7 @@ fn any_spare_mark(s: &[u8], count: usize) -> bool
     false
 }
 
-// Whether s breaks a rule of document 01's archives.
+// Whether s is a bad archive.
 pub fn bad_archive(s: &[u8]) -> bool
     ensures { λ r. ⌜ r ≡ badArchive (now (s .entry)) ⌝ }
 {

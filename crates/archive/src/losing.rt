@@ -39,7 +39,7 @@ fn empty_node(archive: &mut [u8], node: usize)
     lists::zero(archive, record_start(z, k), z.places * record_length(z));
 }
 
-// Empties a node (document 01: box).
+// Empties a node (the scheme: box).
 pub fn lose(archive: &mut [u8], node: usize) -> Outcome
     ensures answer { λ r. ⌜ r ≡ archiveAnswer (now (archive .entry)) (Calls.lose node) ⌝ }
     ensures output { λ _. ⌜ now (archive .exit) ≡ archiveAfter (now (archive .entry)) (Calls.lose node) ⌝ }

@@ -37,7 +37,7 @@ fn write_new(z: Sizes, id: &[u8], archive: &mut [u8])
     lists::store(id, 0, archive, sizes::ID_START, sizes::ID_LENGTH);
 }
 
-// A new archive of n, m, places a node and nodes (document 01: M places a box, N boxes).
+// A new archive of n, m, places a node and nodes (the scheme: M places a box, N boxes).
 pub fn open(
     n: usize,
     m: usize,

@@ -1,5 +1,4 @@
--- Verdict "takes tag key, id, n, m, M, N, the box's M rows, challenge and response, and says accept or reject. 1; 9, malformed challenge;
--- 2, a length; 4, the box not below N or a place not below M; 9, response first byte not as under Messages."
+-- The operation Verdict (SCHEME, Operations). Refuses 1, 9, 2, 4, 9.
 use Prim.Native.Nat.{ℕ, _+_, _-_, _*_}
 use mathlib.Core.Bool.{Bool}
 use mathlib.Core.List.{List, [], _∷_}
@@ -22,7 +21,7 @@ use Rattle.message.specs.Challenge.{Challenge, challengeOf, malformedChallenge,
 use Rattle.audit.specs.declared.Judgement.{Judgement}
 use Rattle.audit.specs.declared.Judgement.the-variants.{Accepted, Rejected, Refused}
 
--- the number of each case: document 01 gives none to accept and reject; here 0 and 255
+-- the number of each case: 0 for accept and 255 for reject, so that only 0 can be taken for an acceptance
 abbrev pub judgementNumber : Judgement → ℕ
 judgementNumber Accepted = 0
 judgementNumber Rejected = 255
@@ -33,20 +32,26 @@ unfoldable pub verdictFor : (z : Sizes) (tagKey id rows : List ℕ) (c : Challen
 verdictFor z tagKey id rows c malformed response =
     refuse (sizesOutside z) Size
     (refuse malformed Malformed
-    (refuse (anyOf (differs (length tagKey) keyLength ∷ differs (length id) idLength ∷ differs (length rows) (z .places * z .m) ∷ differs (length response) (responseLength (z .n)) ∷ [])) Length
+    (refuse
+    (anyOf
+    (differs (length tagKey) keyLength
+    ∷ differs (length id) idLength
+    ∷ differs (length rows) (z .places * z .m)
+    ∷ differs (length response) (responseLength (z .n))
+    ∷ [])) Length
     (refuse (notThere z c) NoSuchPlace
     (refuse (differs (at response 0) (at (responseHead (c .node)) 0)) Malformed
     Done))))
 
--- "It combines the rows of the named places by the challenge (the other rows don't count)"; row p stands at p·m
+-- the rows of the named places, and of no others, combined by the challenge; row p stands at p times m
 unfoldable pub namedRow : (z : Sizes) (rows : List ℕ) (c : Challenge) (i : ℕ) → ℕ
 namedRow z rows c i = mixed (length (c .places)) (at (c .coefficients)) (λ j e. at rows (at (c .places) j * z .m + e)) i
 
--- "appends the result to the n data elements"
+-- the n data elements of the response, then that row
 unfoldable pub appended : (n : ℕ) (response : List ℕ) (row : ℕ → ℕ) (e : ℕ) → ℕ
 appended n response row e = pick (ltb e n) (dataIn n response e) (row (e - n))
 
--- "accepts exactly when their product with the key vector equals tag plus mask sum": over any key vector and combined row
+-- what Verdict compares, over any key vector and combined row
 unfoldable pub accepts : (z : Sizes) (vector row : ℕ → ℕ) (response : List ℕ) → Bool
 accepts z vector row response =
     eqb (product (z .n + z .m) (appended (z .n) response row) vector) (plus (tagIn (z .n) response) (sumIn (z .n) response))

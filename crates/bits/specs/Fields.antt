@@ -1,4 +1,4 @@
--- Bit-packed fields. Document 01: "Fields are bit-packed, most significant first", "zero bits to a whole byte".
+-- Bit-packed fields, most significant bit first, zero bits to a whole byte (SCHEME, Archive, Messages).
 use Prim.Native.Nat.{ℕ, zero, suc, _+_, _-_, _*_, _/_, _%_, _^_, _<_, _≤_}
 use mathlib.Core.Path.{_≡_}
 use mathlib.Core.Bool.{Bool, false}

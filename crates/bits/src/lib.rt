@@ -1,4 +1,4 @@
-// Bit-packed fields of a byte slice, most significant bit first: the headers and messages of document 01 are made of them.
+// Bit-packed fields of a byte slice, most significant bit first: headers and messages are made of them.
 ghost use mathlib.Core.Path.{_≡_};
 ghost use Prim.Native.Nat.{_+_, _-_, _*_, _/_, _%_, _^_, _≤_, _<_};
 ghost use lib.ListN.{length};

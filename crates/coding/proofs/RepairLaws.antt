@@ -251,7 +251,7 @@ record-made count places len k e thetas scratch =
     rw (c, v))
 
 module _ (z : Sizes) (s helpers : List ℕ) (q : ℕ) (gammas thetas : List ℕ) where
-  -- the combination of the blocks in a row is that of document 01, helper by helper
+  -- the combination of the blocks in a row is that of the definition, helper by helper
   target-made : (k e : ℕ) {made : List ℕ} → 1 ≤ q → e < recordLength z → made ≡ scratchMade z s helpers q gammas
       → mixed (length helpers * q) (λ t. at thetas (t * z .places + k)) (λ t e. at made (t * recordLength z + e)) e
       ≡ targetByte z s helpers q gammas thetas k e

@@ -150,7 +150,7 @@ fn fill_place(
     archive[start + z.n + z.m] = tag;
 }
 
-// Fills a place of a node (document 01: box) with the source blocks combined by a row, and the tag of that block.
+// Fills a place of a node (the scheme: box) with the source blocks combined by a row, and the tag of that block.
 pub fn encode(
     archive: &mut [u8],
     node: usize,

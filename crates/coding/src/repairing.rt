@@ -250,7 +250,7 @@ fn fill_target(
     );
 }
 
-// Fills the places of a node (document 01: box) from its helpers' records; scratch then holds the repair blocks.
+// Fills the places of a node (the scheme: box) from its helpers' records; scratch then holds the repair blocks.
 pub fn repair(
     archive: &mut [u8],
     target: usize,

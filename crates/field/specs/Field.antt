@@ -5,7 +5,7 @@ use lib.Dec.{eqb}
 use lib.Bits.{bitXor}
 use Rattle.lists.specs.Lists.{pick}
 
--- document 01: "Addition is exclusive or" (FIPS 197, 4.1)
+-- 4.1, the sum
 abbrev pub plus : (a b : ℕ) → ℕ
 plus a b = bitXor a b
 

@@ -1,4 +1,4 @@
--- Inverse, document 01: "10, the element is zero".
+-- The operation Inverse (SCHEME, Operations). Refuses 10.
 use Prim.Native.Nat.{ℕ}
 use lib.Dec.{eqb}
 use Rattle.lists.specs.Lists.{pick}

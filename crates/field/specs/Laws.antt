@@ -9,7 +9,7 @@ pub record FieldLaws : Type 0 where
   pub associates : (a b c : ℕ) → times (times a b) c ≡ times a (times b c)
   pub distributes : (a b c : ℕ) → times a (plus b c) ≡ plus (times a b) (times a c)
   pub one : (a : ℕ) → a < 256 → times 1 a ≡ a
-  -- document 01: "Zero times anything is zero"
+  -- the product by zero
   pub zero : (a : ℕ) → times 0 a ≡ 0
   pub byte : (a b : ℕ) → times a b < 256
   pub inverse : (a : ℕ) → 0 < a → a < 256 → times a (inverseOf a) ≡ 1

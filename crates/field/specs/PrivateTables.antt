@@ -1,4 +1,4 @@
--- Document 01: "Products go through a table of the 255 powers of 03, each 03 times the one before, starting with 01, and its logarithms."
+-- The tables that products go through: the 255 powers of 03, from 01 on, and their logarithms (SCHEME, Field).
 use Prim.Native.Nat.{ℕ, _%_, _<_}
 use mathlib.Core.Path.{_≡_}
 use mathlib.Core.List.{List}

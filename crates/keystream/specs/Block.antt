@@ -1,4 +1,4 @@
--- Block, document 01: "32-byte key, 32-bit block counter, 12-byte nonce, 64 bytes out"; "2, a buffer of wrong length".
+-- The operation Block (SCHEME, Operations). Refuses 2.
 use Prim.Native.Nat.{ℕ}
 use mathlib.Core.List.{List}
 use lib.ListN.{length}

@@ -6,7 +6,7 @@ use lib.Bits.{bitOr, bitXor}
 use Rattle.lists.specs.Lists.{at, tab}
 use Rattle.keystream.specs.declared.chacha.Four.{Four}
 
--- document 01: "words of 32 bits added with the carry out dropped"; the RFC: addition modulo 2^32
+-- the sum of two words, modulo 2^32
 abbrev pub add32 : (a b : ℕ) → ℕ
 add32 a b = (a + b) % 2 ^ 32
 

@@ -1,5 +1,4 @@
--- The bytes of a stream of keystream. Document 01: "Streams take key and nonce by value, refuse nothing and start at counter 0; after its
--- last value the counter is 0 again."
+-- The bytes of a stream of keystream (SCHEME, Keystream).
 use Prim.Native.Nat.{ℕ, _/_, _%_, _^_}
 use mathlib.Core.List.{List}
 use Rattle.lists.specs.Lists.{at}

@@ -1,5 +1,4 @@
--- How `Stream` keeps its place among those bytes, and what is promised of it. Document 01: "Drawing the next keystream byte hands back the
--- byte and the stream moved on by one."
+-- How `Stream` keeps its place among those bytes, and what is promised of it: a draw gives a byte beside the stream after it.
 use Prim.Native.Nat.{ℕ, zero, suc, _+_, _*_, _/_, _%_, _^_}
 use mathlib.Core.Path.{_≡_}
 use mathlib.Core.List.{List}

@@ -1,4 +1,4 @@
-// Open: document 01's header, and calls with any lengths and numbers.
+// Open: the worked header, and calls with any lengths and numbers.
 use cases::ID;
 use cases::counting_key;
 

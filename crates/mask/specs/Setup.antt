@@ -1,4 +1,4 @@
--- The operation Setup.
+-- The operation Setup (SCHEME, Operations).
 use Prim.Native.Nat.{ℕ, _-_}
 use mathlib.Core.Bool.{not}
 use mathlib.Core.List.{List, [], _∷_}
@@ -13,12 +13,18 @@ use Rattle.sizes.specs.Lengths.{keyLength, idLength, auxiliaryLength}
 use Rattle.tag.specs.KeyVector.{keyVector}
 use Rattle.mask.specs.Masks.{maskRow, auxiliary}
 
--- Setup "takes both keys, id and n, and writes n−1 auxiliary elements": "1, n; 2, a length; 7, the first n−2 key elements are all zero"
+-- refuses 1, 2, 7
 
 unfoldable pub setupAnswer : (tagKey maskKey id : List ℕ) (n : ℕ) (out : List ℕ) → Outcome
 setupAnswer tagKey maskKey id n out =
     refuse (nOutside n) Size
-    (refuse (anyOf (differs (length tagKey) keyLength ∷ differs (length maskKey) keyLength ∷ differs (length id) idLength ∷ differs (length out) (auxiliaryLength n) ∷ [])) Length
+    (refuse
+    (anyOf
+    (differs (length tagKey) keyLength
+    ∷ differs (length maskKey) keyLength
+    ∷ differs (length id) idLength
+    ∷ differs (length out) (auxiliaryLength n)
+    ∷ [])) Length
     (refuse (not (anyBelow (n - 2) (λ e. differs (keyVector tagKey id e) 0))) ZeroKeyVector
     Done))
 

@@ -1,5 +1,4 @@
--- Document 01, Messages: "Challenge: kind, 4 bits, value 1; box, 3, at most 5; count, 4, from 1 to 8; then for each item place, 3,
--- strictly rising, and coefficient, 8; zero bits to a whole byte. The length is exact. Coefficient 00 is allowed."
+-- The challenge, its bytes both ways (SCHEME, Messages), and the operation Challenge.
 use Prim.Native.Nat.{ℕ, zero, suc, _+_, _-_, _*_}
 use mathlib.Core.Bool.{Bool}
 use mathlib.Core.List.{List, [], _∷_}
@@ -13,7 +12,7 @@ use Rattle.answer.specs.Refusals.{refuse, afterwards, differs, outside}
 use Rattle.sizes.specs.declared.Sizes.{Sizes}
 use Rattle.bits.specs.Fields.{BitField, _wide_, bytesFor, pack, fieldAt}
 
--- a challenge: a node (document 01: box), and places with a coefficient each
+-- a challenge: a node (the scheme: box), and places with a coefficient each
 pub record Challenge : Type 0 where
   pub node : ℕ
   pub places : List ℕ
@@ -40,7 +39,7 @@ challengeBits count = 11 * (count + 1)
 abbrev pub challengeLength : (count : ℕ) → ℕ
 challengeLength count = bytesFor (challengeBits count)
 
--- "fields out of rule": a node above 5, no item or more than 8, a place above 7, places that do not rise strictly
+-- fields that no challenge has: a node above 5, no item or more than 8, a place above 7, places that do not rise strictly
 unfoldable pub outOfRule : (node : ℕ) (places : List ℕ) → Bool
 outOfRule node places =
     anyOf
@@ -64,24 +63,25 @@ challengeIn count message =
 unfoldable pub challengeOf : (message : List ℕ) → Challenge
 challengeOf message = challengeIn (fieldAt message 7 4) message
 
--- "malformed challenge": another kind, fields out of rule, a length that is not exact, or non-zero bits at the end
+-- a message that is no challenge: another kind, fields out of rule, a length that is not exact, or non-zero bits at the end
 unfoldable pub malformedFor : (c : Challenge) (message : List ℕ) → Bool
 malformedFor c message =
     anyOf
     (differs (fieldAt message 0 4) 1
     ∷ outOfRule (c .node) (c .places)
     ∷ differs (length message) (challengeLength (length (c .places)))
-    ∷ differs (fieldAt message (challengeBits (length (c .places))) (8 * challengeLength (length (c .places)) - challengeBits (length (c .places)))) 0
+    ∷ differs (fieldAt message (challengeBits (length (c .places)))
+    (8 * challengeLength (length (c .places)) - challengeBits (length (c .places)))) 0
     ∷ [])
 
 abbrev pub malformedChallenge : (message : List ℕ) → Bool
 malformedChallenge message = malformedFor (challengeOf message) message
 
--- "the box not below N or a place not below M"
+-- it names a node or a place that these sizes do not have
 abbrev pub notThere : (z : Sizes) (c : Challenge) → Bool
 notThere z c = anyOf (leb (z .nodes) (c .node) ∷ anyBelow (length (c .places)) (λ j. leb (z .places) (at (c .places) j)) ∷ [])
 
--- ---- Challenge: "2, unequal lists; 9, fields out of rule; 2, output length"
+-- ---- Challenge (SCHEME, Operations): refuses 2, 9, 2
 
 unfoldable pub challengeAnswer : (c : Challenge) (message : List ℕ) → Outcome
 challengeAnswer c message =

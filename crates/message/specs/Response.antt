@@ -1,5 +1,4 @@
--- Document 01, Messages: "Response, n+14 bytes: kind 2 in 4 bits, the challenge's box in 3, one zero bit; n−2 masked bytes; seed;
--- mask sum; elements n−1 and n in clear; tag." Elements count from 0 here, so those in clear are n - 2 and n - 1.
+-- The response, its bytes and its parts (SCHEME, Messages). Elements count from 0 here, so those in clear are n - 2 and n - 1.
 use Prim.Native.Nat.{ℕ, _+_, _-_}
 use mathlib.Core.List.{List, [], _∷_, _++_}
 use lib.ListN.{take, drop}
@@ -9,7 +8,7 @@ use Rattle.field.specs.Field.{plus}
 use Rattle.bits.specs.Fields.{_wide_, pack}
 use Rattle.sizes.specs.Lengths.{seedLength, seedStart, sumAt, clearStart, tagAt}
 
--- its first byte, for a node (document 01: box)
+-- its first byte, for a node (the scheme: box)
 abbrev pub responseHead : (node : ℕ) → List ℕ
 responseHead node = pack ((4 wide 2) ∷ (3 wide node) ∷ (1 wide 0) ∷ [])
 
@@ -19,7 +18,7 @@ responseBytes n node block tag hidden seed total =
 
 -- ---- its parts
 
--- the n data elements: "masked bytes, then the two in clear"
+-- the n data elements, those masked and then those in clear
 unfoldable pub dataIn : (n : ℕ) (response : List ℕ) (e : ℕ) → ℕ
 dataIn n response e = pick (ltb e (n - 2)) (at response (1 + e)) (at response (clearStart n + (e - (n - 2))))
 

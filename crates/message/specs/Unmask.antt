@@ -1,4 +1,4 @@
--- The operation Unmask.
+-- The operation Unmask (SCHEME, Operations).
 use Prim.Native.Nat.{ℕ, _-_}
 use mathlib.Core.List.{List, [], _∷_}
 use lib.ListN.{length}
@@ -15,13 +15,18 @@ use Rattle.mask.specs.Masks.{maskRow, maskCoefficient, mask}
 use Rattle.sizes.specs.Lengths.{responseLength, keyLength, idLength}
 use Rattle.message.specs.Response.{dataIn, seedIn}
 
--- Unmask "takes n, id, mask key and response, and writes n−2 bytes": "1, n; 2, a length; 9, first byte not kind 2, a box up to 5
--- and a zero bit"
+-- refuses 1, 2, 9
 
 unfoldable pub unmaskAnswer : (n : ℕ) (id maskKey response out : List ℕ) → Outcome
 unmaskAnswer n id maskKey response out =
     refuse (nOutside n) Size
-    (refuse (anyOf (differs (length id) idLength ∷ differs (length maskKey) keyLength ∷ differs (length response) (responseLength n) ∷ differs (length out) (n - 2) ∷ [])) Length
+    (refuse
+    (anyOf
+    (differs (length id) idLength
+    ∷ differs (length maskKey) keyLength
+    ∷ differs (length response) (responseLength n)
+    ∷ differs (length out) (n - 2)
+    ∷ [])) Length
     (refuse (anyOf (differs (fieldAt response 0 4) 2 ∷ ltb 5 (fieldAt response 4 3) ∷ differs (fieldAt response 7 1) 0 ∷ [])) Malformed
     Done))
 

@@ -105,7 +105,7 @@ fn write_message(node: usize, places: &[u8], coefficients: &[u8], message: &mut 
     }
 }
 
-// The challenge to a node (document 01: box), with a coefficient for each place.
+// The challenge to a node (the scheme: box), with a coefficient for each place.
 pub fn challenge(node: usize, places: &[u8], coefficients: &[u8], message: &mut [u8]) -> Outcome
     ensures answer { λ r.
         let places = now (places .entry) in
@@ -187,7 +187,7 @@ pub fn malformed(message: &[u8]) -> bool
     bits::read_field(message, used, 8 * length - used) != 0
 }
 
-// The node that a challenge names (document 01: box).
+// The node that a challenge names (the scheme: box).
 pub fn node_in(message: &[u8]) -> usize
     requires { ⌜ malformedChallenge (now message) ≡ false ⌝ }
     ensures { λ r. ⌜ (r ≡ challengeOf (now (message .entry)) .node) × (r ≤ 5) ⌝ }

@@ -4,7 +4,7 @@ ghost use Prim.Native.Nat.{_<_};
 ghost use Rattle.lists.specs.Lists.{at};
 ghost use Rattle.message.specs.Response.{responseHead};
 
-// Kind 2, a node (document 01: box) and a zero bit.
+// Kind 2, a node (the scheme: box) and a zero bit.
 pub fn head_byte(node: usize) -> u8
     requires { ⌜ node < 8 ⌝ }
     ensures { λ r. ⌜ r ≡ at (responseHead node) 0 ⌝ }

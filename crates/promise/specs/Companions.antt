@@ -1,4 +1,4 @@
--- What stands beside demand 3: unmasking, and that Read and Inventory leave free no more than document 01 says.
+-- What stands beside demand 3: unmasking, and that Read and Inventory leave free no more than the scheme does.
 use Prim.Native.Nat.{ℕ, _-_}
 use mathlib.Core.Path.{_≡_}
 use mathlib.Core.List.{List}
@@ -15,10 +15,12 @@ use Rattle.archive.specs.Inventory.{InventoryAllows}
 use Rattle.answer.specs.declared.Counted.{Counted}
 use Rattle.answer.specs.declared.Counted.the-variants.{Count, Refused}
 
--- demand 2: "unmasking gives the block that was masked", that is its first n−2 elements: for every archive, auxiliary list, seed and challenge that Prove accepts
+-- Unmask gives back the first n - 2 elements of the block in a response, for every archive, auxiliary list, seed and challenge that Prove
+-- accepts
 abbrev pub Unmasking : Type 0
 Unmasking =
-    (s maskKey auxiliary seed message lent out : List ℕ) → proveAnswer s maskKey auxiliary seed message lent ≡ Done → length out ≡ sizesOf s .n - 2
+    (s maskKey auxiliary seed message lent out : List ℕ) → proveAnswer s maskKey auxiliary seed message lent ≡ Done
+    → length out ≡ sizesOf s .n - 2
     → (unmaskAnswer (sizesOf s .n) (idOf s) maskKey (proveOut s maskKey auxiliary seed message lent) out ≡ Done)
     × (unmaskOut (sizesOf s .n) (idOf s) maskKey (proveOut s maskKey auxiliary seed message lent) out
     ≡ tab (sizesOf s .n - 2) (namedByte (sizesOf s) s (challengeOf message)))
@@ -30,7 +32,7 @@ SameButCount (Count k) (Refused r) = ⊥
 SameButCount (Refused r) (Count k) = ⊥
 SameButCount (Refused r) (Refused r′) = r ≡ r′
 
--- "so damaged records too have one result"
+-- Read of one archive has one result, whatever its records hold
 abbrev pub ReadIsFixed : Type 0
 ReadIsFixed =
     (s out : List ℕ) (a a′ : Counted) (file file′ : List ℕ) → ReadAllows s out a file → ReadAllows s out a′ file′

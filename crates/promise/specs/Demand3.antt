@@ -1,5 +1,4 @@
--- Demand 3 (docs/STATEMENT.md has the demands in full), in document 01's terms: "a single claim about the whole list, and not one
--- for each call".
+-- Demand 3 (docs/STATEMENT.md): one claim about a whole list of calls.
 use Prim.Native.Nat.{ℕ, _<_}
 use mathlib.Core.Path.{_≡_}
 use mathlib.Core.Logic.{_↔_, _≢_}
@@ -32,11 +31,11 @@ use Rattle.promise.specs.Image.{Setting, vector}
 
 -- ---- the premises
 
--- "Take a newly opened archive, one file, one padding and one pair of keys that Setup accepted"
+-- an archive that Open made, a file with its padding, and two keys
 pub record Given : Type 0 where
   pub z : Sizes
   pub id : List ℕ
-  -- "Its archive is as Open wrote it, in any sizes"
+  -- what Open was lent
   pub lent : List ℕ
   pub open-done : openAnswer z id lent ≡ Done
   pub file : List ℕ
@@ -44,7 +43,7 @@ pub record Given : Type 0 where
   pub file-bytes : Bytes file
   pub padding : List ℕ
   pub padding-size : length padding ≡ paddingLength z
-  -- "The keys are ones that Setup accepted for the archive's id and n"
+  -- Setup accepted both keys, for this id and n
   pub tagKey : List ℕ
   pub maskKey : List ℕ
   pub auxiliary-lent : List ℕ
@@ -53,7 +52,7 @@ pub record Given : Type 0 where
 abbrev pub setting : (g : Given) → Setting
 setting g = record { z = g .z; id = g .id; file = g .file; padding = g .padding; tagKey = g .tagKey }
 
--- "Setup's elements"
+-- what Setup wrote
 abbrev pub givenAuxiliary : (g : Given) → List ℕ
 givenAuxiliary g = setupOut (g .tagKey) (g .maskKey) (g .id) (g .z .n) (g .auxiliary-lent)
 
@@ -63,14 +62,14 @@ TakesOne g (encode node place file padding key row) = (file ≡ g .file) × (pad
 TakesOne g (lose node) = Unit {0}
 TakesOne g (repair target helpers q gammas thetas scratch) = Unit {0}
 
--- "Every Encode that the table accepts takes the one file, padding and tag key; a refused call may carry anything"
+-- so does every Encode that the table accepts; of a refused call nothing is asked
 abbrev pub Admitted : Given → Table → List Call → Type 0
 Admitted g t [] = Unit {0}
 Admitted g t (c ∷ cs) = (tableAnswer (g .z) t c ≡ Done → TakesOne g c) × Admitted g (tableAfter (g .z) t c) cs
 
 -- ---- an honest audit
 
--- "an accepted Challenge that names filled places of a box", a seed, "all with buffers of the right lengths"
+-- a challenge that was accepted and names filled places of a node, a seed, and buffers of the right lengths
 pub record Honest (g : Given) (t : Table) : Type 0 where
   pub c : Challenge
   pub lent : List ℕ
@@ -89,15 +88,15 @@ module _ (g : Given) (t : Table) (archive : List ℕ) (h : Honest g t) where
   abbrev pub message : List ℕ
   message = challengeOut (h .c) (h .lent)
 
-  -- "Prove on it with Setup's elements, the mask key and a seed"
+  -- what Prove wrote, by the mask key and what Setup wrote
   abbrev pub sent : List ℕ
   sent = proveOut archive (g .maskKey) (givenAuxiliary g) (h .seed) message (h .out)
 
-  -- "the box's rows from this table, zeros for empty places"
+  -- the rows of the node as the table has them, zeros where a place is empty
   abbrev pub nodeRows : List ℕ
   nodeRows = flat (g .z .places) (g .z .m) (λ place. element (t (h .c .node) place))
 
-  -- "then Verdict with the tag key, the archive's id and sizes, and" those rows
+  -- what Verdict says of a response, by those rows
   abbrev pub says : List ℕ → Judgement
   says response = verdictOf (g .tagKey) (g .id) (g .z) nodeRows message response
 
@@ -108,7 +107,7 @@ module _ (g : Given) (t : Table) (archive : List ℕ) (h : Honest g t) where
   abbrev pub namedBlock : ℕ → ℕ
   namedBlock = coded (g .z) (g .file) (g .padding) namedRow
 
-  -- "document 01's response" for that block and its tag
+  -- the response of the scheme for that block and its tag
   abbrev pub expected : List ℕ
   expected =
       responseFor (g .z .n) (g .id) (g .maskKey) (givenAuxiliary g) (h .seed) (h .c .node) namedBlock
@@ -119,8 +118,8 @@ module _ (g : Given) (t : Table) (archive : List ℕ) (h : Honest g t) where
     pub sends : sent ≡ expected
     pub accepts : says sent ≡ Accepted
 
-  -- "A change is the sum of that response's element and Prove's at the same position; the n data elements meet the first n of the key
-  -- vector": the changes of the data elements, times the key vector, add up to the changes of tag and mask sum
+  -- a change is the sum of two responses' elements at one position; those of the n data elements, times the key vector, are together those
+  -- of tag and mask sum
   abbrev pub ChangesAddUp : List ℕ → Type 0
   ChangesAddUp other =
       product (g .z .n) (λ e. plus (dataIn (g .z .n) other e) (dataIn (g .z .n) sent e)) (vector (setting g))
@@ -128,45 +127,46 @@ module _ (g : Given) (t : Table) (archive : List ℕ) (h : Honest g t) where
 
 -- ---- the conclusion
 
--- a place holds "the source blocks combined by its row, and that combination's tag"
+-- a place holds the source blocks combined by a row, with their tag
 pub record HoldsCoded (g : Given) (archive : List ℕ) (k : ℕ) (row : List ℕ) : Type 0 where
   pub block : (e : ℕ) → e < blockLength (g .z) → byteIn (g .z) archive k e ≡ coded (g .z) (g .file) (g .padding) (at row) e
-  pub tag : byteIn (g .z) archive k (blockLength (g .z)) ≡ product (blockLength (g .z)) (coded (g .z) (g .file) (g .padding) (at row)) (vector (setting g))
+  pub tag : byteIn (g .z) archive k (blockLength (g .z))
+      ≡ product (blockLength (g .z)) (coded (g .z) (g .file) (g .padding) (at row)) (vector (setting g))
 
--- some non-zero vector of m elements is orthogonal to every filled row of the table
+-- a vector of m bytes, not all zero, is orthogonal to all rows in the table
 abbrev pub TableBlind : (z : Sizes) (t : Table) → Type 0
 TableBlind z t = Blind z (λ k. isFilled (numbered z t k)) (λ k. element (numbered z t k))
 
 pub record Demand (g : Given) (calls : List Call) (t : Table) (archive : List ℕ) : Type 0 where
-  -- "All answers, fill marks and stored rows are those of document 01's row table"
+  -- the archive answers, marks and stores rows as the table does
   pub answers : archiveAnswers (openOut (g .z) (g .id) (g .lent)) calls ≡ tableAnswers (g .z) allEmpty calls
   pub marks : (k : ℕ) → k < markCount → markAt archive k ≡ isFilled (numbered (g .z) t k)
   pub rows : (node place : ℕ) (row : List ℕ) → node < g .z .nodes → place < g .z .places → t node place ≡ filled row
       → tab (g .z .m) (rowIn (g .z) archive (placeNumber (g .z) node place)) ≡ row
-  -- "Inventory names exactly its filled places, each once, and their number"; "another length is 2". The number is the value that it hands
-  -- back, whatever stood there before
+  -- Inventory lists the table's filled places, each once, and hands back their number, whatever stood there before; lent another length, it
+  -- refuses with 2
   pub inventory : (out : List ℕ) (answer : Counted) (list : List ℕ) → InventoryAllows archive out answer list
       → (length out ≡ placeCount (g .z)
       → (countedNumber answer ≡ 0) × ((old : ℕ) → Listed (g .z) (λ node place. isFilled (t node place)) (countedValue answer old) list))
       × (length out ≢ placeCount (g .z) → countedNumber answer ≡ 2)
-  -- "Each filled place holds the source blocks combined by its row, and that combination's tag"
+  -- what stands in each filled place
   pub places : (node place : ℕ) (row : List ℕ) → node < g .z .nodes → place < g .z .places → t node place ≡ filled row
       → HoldsCoded g archive (placeNumber (g .z) node place) row
-  -- "Every honest audit against those rows, with any seed, sends document 01's response and accepts"
+  -- an honest audit, with any seed, goes as it should
   pub audits : (h : Honest g t) → AuditHolds g t archive h
-  -- "Any other response of the same length and first byte is accepted exactly when the changes .. add up"
+  -- another response, of that length and first byte, is accepted if its changes add up, and rejected if they do not
   pub altered : (h : Honest g t) (other : List ℕ) → length other ≡ length (sent g t archive h) → at other 0 ≡ at (sent g t archive h) 0
       → ((says g t archive h other ≡ Accepted) ↔ ChangesAddUp g t archive h other)
       × ((says g t archive h other ≡ Rejected) ↔ (¬ ChangesAddUp g t archive h other))
-  -- "Read, lent an output of the file's length, is refused, with 8, exactly when some non-zero vector of m elements is orthogonal to
-  -- every filled row, and otherwise writes the file"; the places it consulted are enough of the table's too
+  -- Read, lent the file's length, gives back the file, or refuses with 8 if and only if the table's rows leave something open; the
+  -- places that it consulted are enough of the table's too
   pub read : (out : List ℕ) (answer : Counted) (file : List ℕ) → length out ≡ fileLength (g .z) → ReadAllows archive out answer file
       → ((countedNumber answer ≡ 8) ↔ TableBlind (g .z) t)
       × ((¬ TableBlind (g .z) t)
       → (countedNumber answer ≡ 0) × (file ≡ g .file)
       × ((old : ℕ) → Enough (g .z) (λ k. isFilled (numbered (g .z) t k)) (λ k. element (numbered (g .z) t k)) (countedValue answer old)))
 
--- "The table, all empty at first, is fed the same calls"
+-- for every list of calls, on the archive and on a table that was empty at first
 abbrev pub Demand3 : Type 0
 Demand3 =
     (g : Given) (calls : List Call) → Admitted g allEmpty calls

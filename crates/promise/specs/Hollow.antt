@@ -1,5 +1,5 @@
--- Document 01, "Mistakes and hollow programs": for each line, the fact about the definitions that rules it out. The numbers are those
--- of the worked values and of the life in numbers.
+-- Mistakes that a program of this kind can have, and programs that do nothing: for each, the fact about the definitions that rules it
+-- out. The numbers are those of the worked values and of the life in numbers.
 use Prim.Native.Nat.{ℕ, _<_}
 use mathlib.Core.Path.{_≡_}
 use mathlib.Core.Logic.{_≢_}
@@ -31,27 +31,30 @@ abbrev pub firstCall : Call
 firstCall = encode 0 0 L.file L.padding L.tagKey (0x01 ∷ 0x00 ∷ [])
 
 pub record Hollow : Type 0 where
-  -- "Tag of the masked block compared without the mask sum": the honest response would be rejected (`audits`)
+  -- the tag compared alone, without the mask sum: an honest response would be rejected (`audits`)
   pub without-mask-sum : eqb (product 5 (appended 3 W.response W.combined) W.vector) (tagIn 3 W.response) ≡ false
-  -- "Rows taken from the box, not from the auditor: old blocks replayed then pass": against other rows the response is rejected
+  -- rows that come from the box, so that it may replay old blocks: against other rows the response is rejected
   pub replayed : accepts W.z W.vector (namedRow W.z (0x01 ∷ 0x00 ∷ []) W.challenge) W.response ≡ false
-  -- "Only data combined in Repair, the m tail elements copied from one helper": the repaired row is no helper's row (`rows`)
+  -- a Repair that combines data and copies a row: the repaired row is no helper's row (`rows`)
   pub repaired-row : tab 2 (rowIn L.z L.archive (placeNumber L.z 2 0)) ≡ 0xf3 ∷ 0xfe ∷ []
-  -- "Mask row index left out of F2, making all rows equal": two rows differ
+  -- mask rows without their index in the nonce: two rows differ
   pub rows-differ : maskRow L.maskKey L.id 0 0 ≢ maskRow L.maskKey L.id 1 0
-  -- "A Verdict that always accepts, or always rejects": one response is accepted, and one is not (`audits`, `altered`)
+  -- a Verdict that says one thing of all: one response is accepted, and one is not (`audits`, `altered`)
   pub one-accepted : accepts W.z W.vector W.combined W.response ≡ true
   pub one-rejected : accepts W.z W.vector W.combined (W.bytes 0xbb 0x4c 0x02 0x0c 0x06) ≡ false
-  -- "Refusing everything breaks the row table": some call is accepted (`answers`)
+  -- refusing everything: some call is accepted (`answers`)
   pub accepted : archiveAnswer fresh firstCall ≡ Done
-  -- "A Repair that sets marks and moves no bytes": the place holds these bytes (`places`)
+  -- a Repair that only marks: the place holds these bytes (`places`)
   pub repaired-bytes : tab (recordLength L.z) (byteIn L.z L.archive (placeNumber L.z 2 0)) ≡ 0x2a ∷ 0xf3 ∷ 0xd5 ∷ 0xf3 ∷ 0xfe ∷ 0xbd ∷ []
-  -- "an Encode that spreads every later row beforehand and then idles": every other place is as it was (`places`, `marks`)
+  -- an Encode that fills other places too: every other place is as it was (`places`, `marks`)
   pub one-place : (k : ℕ) → 0 < k → k < placeCount L.z
-      → (markAt (archiveAfter fresh firstCall) k ≡ false) × ((e : ℕ) → e < recordLength L.z → byteIn L.z (archiveAfter fresh firstCall) k e ≡ 0)
-  -- "Read saying 8 without looking": 8 comes with a vector that is orthogonal to every filled row
+      → (markAt (archiveAfter fresh firstCall) k ≡ false)
+      × ((e : ℕ) → e < recordLength L.z → byteIn L.z (archiveAfter fresh firstCall) k e ≡ 0)
+  -- a Read that does not look: 8 comes with a vector that is orthogonal to every filled row
   pub seen : (s out written : List ℕ) → ReadAllows s out (Refused Unreadable) written → Blind (sizesOf s) (markAt s) (rowIn (sizesOf s) s)
-  -- "an Inventory number made up": the number is that of the filled places
-  pub counted : (s out list : List ℕ) (count : ℕ) → InventoryAllows s out (Count count) list → count ≡ howMany (placeCount (sizesOf s)) (markAt s)
-  -- "a Read count too small": at least m places were consulted, and they suffice
-  pub consulted : (s out file : List ℕ) (count : ℕ) → ReadAllows s out (Count count) file → Enough (sizesOf s) (markAt s) (rowIn (sizesOf s) s) count
+  -- an invented number from Inventory: it is that of the filled places
+  pub counted : (s out list : List ℕ) (count : ℕ) → InventoryAllows s out (Count count) list
+      → count ≡ howMany (placeCount (sizesOf s)) (markAt s)
+  -- too small a number from Read: at least m places were consulted, and they suffice
+  pub consulted : (s out file : List ℕ) (count : ℕ) → ReadAllows s out (Count count) file
+      → Enough (sizesOf s) (markAt s) (rowIn (sizesOf s) s) count

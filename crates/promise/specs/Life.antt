@@ -1,5 +1,5 @@
 -- A life in numbers: a concrete archive, keys and a list of calls that meet every premise of demand 3, with accepted Encodes, an
--- accepted Repair, refused calls that carry other data, and an honest audit. Independent programs agree on the bytes.
+-- accepted Repair, refused calls that carry other data, and an honest audit.
 use Prim.Native.Nat.{ℕ}
 use mathlib.Core.Path.{_≡_, refl}
 use mathlib.Core.List.{List, [], _∷_}
@@ -117,4 +117,5 @@ pub record Lived : Type 0 where
   pub audit : Honest (given opens sets-up file-bytes) table
   pub message-is : message (given opens sets-up file-bytes) table archive audit ≡ 0x14 ∷ 0x40 ∷ 0x1c ∷ 0xda ∷ 0x80 ∷ []
   pub sent-is : sent (given opens sets-up file-bytes) table archive audit ≡ responseBytes
-  pub accepted : says (given opens sets-up file-bytes) table archive audit (sent (given opens sets-up file-bytes) table archive audit) ≡ Accepted
+  pub accepted : says (given opens sets-up file-bytes) table archive audit (sent (given opens sets-up file-bytes) table archive audit)
+      ≡ Accepted

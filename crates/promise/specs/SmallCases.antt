@@ -39,7 +39,7 @@ pub record SmallCases : Type 0 where
   -- packing and parsing a challenge give back its fields, and a message that Challenge wrote is not malformed
   pub challenge-back : (c : Challenge) (lent : List ℕ) → challengeAnswer c lent ≡ Done → Bytes (c .coefficients)
       → (challengeOf (challengeOut c lent) ≡ c) × (malformedChallenge (challengeOut c lent) ≡ false)
-  -- "Header for n=3, m=2, M=1, N=3: 10 06 21 60, length 36; n=2 and n=1,025 refused 1; boxes 0 and 2 filled: marks a0 00 00 00 00 00"
+  -- a header and its length, two sizes that are refused, and the marks of two filled boxes
   pub header : pack (sizeFields (sizes 3)) ≡ 0x10 ∷ 0x06 ∷ 0x21 ∷ 0x60 ∷ []
   pub length-36 : archiveLength (sizes 3) ≡ 36
   pub n-2 : (id archive : List ℕ) → outcomeNumber (openAnswer (sizes 2) id archive) ≡ 1

@@ -1,4 +1,4 @@
--- Document 01, "Row table": the plain machine of demand 3. It knows sizes, rows, and a call's numbers and lengths; nothing of an
+-- The row table (SCHEME, Row table): the plain machine of demand 3. It knows sizes, rows, and a call's numbers and lengths; nothing of an
 -- archive's bytes is in it.
 use Prim.Native.Nat.{ℕ, _/_, _%_}
 use mathlib.Core.Bool.{Bool, true, false}
@@ -12,12 +12,12 @@ use Rattle.sizes.specs.Lengths.{placeCount}
 use Rattle.archive.specs.Calls.{Call, encode, lose, repair, answerFor}
 use Rattle.archive.specs.Repair.{repairSum}
 
--- "Its state: for each place, empty or a row of m elements"
+-- what a place holds
 pub data Place : Type 0 where
   empty : Place
   filled : List ℕ → Place
 
--- by node (document 01: box) and place
+-- by node (the scheme: box) and place
 abbrev pub Table : Type 0
 Table = ℕ → ℕ → Place
 
@@ -37,11 +37,11 @@ element (filled row) i = at row i
 unfoldable pub numbered : (z : Sizes) (t : Table) (k : ℕ) → Place
 numbered z t k = pick (ltb k (placeCount z)) (t (k / z .places) (k % z .places)) empty
 
--- "Its answer is the first refusal below that its state, the sizes and the call's numbers and lengths call for (3 never), or else acceptance"
+-- the answer of a call: the archive's, by the places that are filled here; a table is never bad
 abbrev pub tableAnswer : (z : Sizes) (t : Table) (c : Call) → Outcome
 tableAnswer z t c = answerFor z (λ node place. isFilled (t node place)) c
 
--- "the sum over helpers i and repair blocks j of theta(i,j,k) times the sum over places l of gamma(i,j,l) times the helper's row l"
+-- the row that Repair gives target place k
 unfoldable pub repairedRow : (z : Sizes) (t : Table) (helpers : List ℕ) (q : ℕ) (gammas thetas : List ℕ) (k : ℕ) → List ℕ
 repairedRow z t helpers q gammas thetas k = tab (z .m) (λ i. repairSum z helpers q gammas thetas k (λ node l. element (t node l) i))
 
@@ -49,14 +49,14 @@ repairedRow z t helpers q gammas thetas k = tab (z .m) (λ i. repairSum z helper
 unfoldable pub written : ℕ → ℕ → ℕ → (ℕ → Place) → Table → Table
 written node place count new t node′ place′ = pick (eqb node′ node) (over place count new (t node) place′) (t node′ place′)
 
--- "Encode sets one empty place to the row given. Lose empties a box. Repair sets each target place k to" its sum
+-- what an accepted call makes of the table
 abbrev pub tableEffect : Sizes → Table → Call → Table
 tableEffect z t (encode node place file padding key row) = written node place 1 (λ j. filled row) t
 tableEffect z t (lose node) = written node 0 (z .places) (λ j. empty) t
 tableEffect z t (repair target helpers q gammas thetas scratch) =
     written target 0 (z .places) (λ k. filled (repairedRow z t helpers q gammas thetas k)) t
 
--- "A refused call changes nothing"
+-- the table after a call
 abbrev pub tableAfter : (z : Sizes) (t : Table) (c : Call) → Table
 tableAfter z t c = afterwards (tableAnswer z t c) t (tableEffect z t c)
 

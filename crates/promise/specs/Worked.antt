@@ -1,5 +1,4 @@
--- Document 01, "Worked values": the entries with a star, "shown of the definitions, as one table under one conjunction".
--- "Key vector 83 02 01 03 05, n=3, m=2."
+-- Worked values, computed from the definitions: n=3 and m=2, over a key vector that comes from no key.
 use Prim.Native.Nat.{ℕ}
 use mathlib.Core.Path.{_≡_}
 use mathlib.Core.Bool.{true, false}
@@ -46,7 +45,7 @@ maskRows i e = at (0x05 ∷ 0x09 ∷ []) i
 abbrev pub coefficients : ℕ → ℕ
 coefficients = at (0x01 ∷ 0x02 ∷ [])
 
--- "Challenge to box 2, place 0, coefficient 01"
+-- to node 2, for its only place
 abbrev pub challenge : Challenge
 challenge = record { node = 2; places = 0 ∷ []; coefficients = 0x01 ∷ [] }
 
@@ -61,7 +60,7 @@ bytes masked total clear clear′ tag = 0x24 ∷ masked ∷ (seed ++ (total ∷ 
 abbrev pub combined : ℕ → ℕ
 combined = namedRow z (0x02 ∷ 0x03 ∷ []) challenge
 
--- "Places holding b1 and that combination": boxes 0 and 2; and b1 alone
+-- archives of three boxes: boxes 0 and 2 hold b1 and the combination, or box 0 holds b1 and the others nothing
 abbrev pub header : (marks : ℕ) → List ℕ
 header marks = 0x10 ∷ 0x06 ∷ 0x21 ∷ 0x60 ∷ 1 ∷ 2 ∷ 3 ∷ 4 ∷ 5 ∷ 6 ∷ 7 ∷ 8 ∷ marks ∷ 0 ∷ 0 ∷ 0 ∷ 0 ∷ 0 ∷ []
 
@@ -73,41 +72,41 @@ two =
 abbrev pub one : List ℕ
 one = header 0x80 ++ (0x57 ∷ 0x01 ∷ 0x00 ∷ 0x01 ∷ 0x00 ∷ 0xc0 ∷ 0 ∷ 0 ∷ 0 ∷ 0 ∷ 0 ∷ 0 ∷ 0 ∷ 0 ∷ 0 ∷ 0 ∷ 0 ∷ 0 ∷ [])
 
--- "That block under coefficient 01": node 2 of that archive combines the named place by the challenge; the seed is zeros
+-- node 2 of that archive answers the challenge; the seed is zeros
 abbrev pub response : List ℕ
 response =
     responseBytes 3 2 (namedByte z two challenge) (namedByte z two challenge 5) (mask 3 coefficients maskRows) seed
     (maskSum 3 coefficients (auxiliary 3 vector maskRows))
 
 pub record Worked : Type 0 where
-  -- "57·83=c1; 57·13=fe; inverse of 53 is ca; 00 refused 10"
+  -- products and inverses
   pub product-83 : times 0x57 0x83 ≡ 0xc1
   pub product-13 : times 0x57 0x13 ≡ 0xfe
   pub inverse-53 : inverted 0x53 ≡ Element 0xca
   pub inverse-00 : outcomeNumber (invertedOutcome (inverted 0x00)) ≡ 10
-  -- "b1 = 57 01 00 01 00, tag c0; b2 = 01 00 04 00 01, tag 82"
+  -- the source blocks b1 and b2, with their tags
   pub b1 : tab 6 (withTag 5 vector (source z file padding 0)) ≡ 0x57 ∷ 0x01 ∷ 0x00 ∷ 0x01 ∷ 0x00 ∷ 0xc0 ∷ []
   pub b2 : tab 6 (withTag 5 vector (source z file padding 1)) ≡ 0x01 ∷ 0x00 ∷ 0x04 ∷ 0x00 ∷ 0x01 ∷ 0x82 ∷ []
-  -- "02·b1+03·b2 = ad 02 0c 02 03, tag 06"
+  -- their combination by 02 and 03, with its tag
   pub combination : tab 6 (codedRecord z vector file padding row) ≡ 0xad ∷ 0x02 ∷ 0x0c ∷ 0x02 ∷ 0x03 ∷ 0x06 ∷ []
   -- the tags c0 and 82 combined by the same coefficients
   pub tags : plus (times 0x02 0xc0) (times 0x03 0x82) ≡ 0x06
-  -- "Mask rows 05, 09: auxiliary b9, f7; coefficients 01, 02: mask 17, sum 4c"
+  -- auxiliary elements, mask and mask sum
   pub auxiliary-is : auxiliary 3 vector maskRows ≡ 0xb9 ∷ 0xf7 ∷ []
   pub mask-17 : mask 3 coefficients maskRows 0 ≡ 0x17
   pub sum-4c : maskSum 3 coefficients (0xb9 ∷ 0xf7 ∷ []) ≡ 0x4c
-  -- "That block under coefficient 01: masked ba, clear 02 0c, tag 06: accepted (4a on either side)"
+  -- the response, and both sides of what Verdict compares
   pub response-is : response ≡ bytes 0xba 0x4c 0x02 0x0c 0x06
   pub left : product 5 (appended 3 response combined) vector ≡ 0x4a
   pub right : plus (tagIn 3 response) (sumIn 3 response) ≡ 0x4a
   pub accepted : accepts z vector combined response ≡ true
-  -- "Masked byte changed by 01: rejected; mask sum also changed by 83: accepted"
+  -- one change is found; two that add up are not
   pub changed : accepts z vector combined (bytes (plus 0xba 0x01) 0x4c 0x02 0x0c 0x06) ≡ false
   pub changed-both : accepts z vector combined (bytes (plus 0xba 0x01) (plus 0x4c 0x83) 0x02 0x0c 0x06) ≡ true
-  -- "Challenge to box 2, place 0, coefficient 01: 14 20 04"
+  -- the challenge, and its bytes
   pub asked : outcomeNumber (challengeAnswer challenge (0 ∷ 0 ∷ 0 ∷ [])) ≡ 0
   pub message : challengeOut challenge (0 ∷ 0 ∷ 0 ∷ []) ≡ 0x14 ∷ 0x20 ∷ 0x04 ∷ []
-  -- "Places holding b1 and that combination, rows 01 00 and 02 03: Read gives 57 01. Row 01 00 alone: 8" (`ReadIsFixed`: and nothing else)
+  -- Read of two rows gives the file, of one row 8, and nothing else (`ReadIsFixed`)
   pub read-two : ReadAllows two (0 ∷ 0 ∷ []) (Count 2) (0x57 ∷ 0x01 ∷ [])
   pub read-one : ReadAllows one (0 ∷ 0 ∷ []) (Refused Unreadable) (0 ∷ 0 ∷ [])
   pub eight : countedNumber (Refused Unreadable) ≡ 8

@@ -31,7 +31,7 @@ pub fn premises_can_be_met()
     ensures { λ _. ⌜ Lived ⌝ }
 {}
 
-// The starred worked values of document 01, as one table.
+// The worked values, as one table.
 pub fn worked_values()
     ensures { λ _. ⌜ Worked ⌝ }
 {}
@@ -41,7 +41,7 @@ pub fn small_cases()
     ensures { λ _. ⌜ SmallCases ⌝ }
 {}
 
-// For each mistake and hollow program that document 01 lists, the fact that rules it out.
+// For each mistake and hollow program, the fact that rules it out.
 pub fn no_hollow_program()
     ensures { λ _. ⌜ Hollow ⌝ }
 {}

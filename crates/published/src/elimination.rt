@@ -1,4 +1,4 @@
-// Rows and elimination: document 01's rows 01 00 and 02 03, and rows that do not determine a vector.
+// Rows and elimination: the worked rows 01 00 and 02 03, and rows that do not determine a vector.
 // Of the first k rows, m elements each; both are below 17.
 fn rank(label: &[u8], expected: u64, a: [[u8; 16]; 16], k: usize, m: usize) {
     let mut r = 0usize;

@@ -1,4 +1,4 @@
-// Runs the vectors of RFC 8439 and FIPS 197, document 01's worked values and hostile calls through the public functions below the archive.
+// Runs the vectors of RFC 8439 and FIPS 197, the worked values and hostile calls through the public functions below the archive.
 mod audits;
 mod elimination;
 mod fips197;

@@ -1,4 +1,4 @@
-// Bit-packed fields: document 01's worked header and challenge, written and read back field by field.
+// Bit-packed fields: the worked header and challenge, written and read back field by field.
 
 // n=3, m=2, M=1, N=3 under layout 1, into bytes that are all ones.
 fn header() {

@@ -1,4 +1,4 @@
--- Document 01: "n is 3 to 1,024, m is 1 to 16, M (places a box) 1 to 8, N (boxes) 1 to 6."
+-- The ranges of the sizes (SCHEME, Sizes).
 use Prim.Native.Nat.{ℕ}
 use mathlib.Core.Bool.{Bool}
 use mathlib.Core.List.{[], _∷_}

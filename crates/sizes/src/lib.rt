@@ -35,7 +35,7 @@ pub const TAG_PAST_N: usize = 13;
 
 pub const RESPONSE_PAST_N: usize = 14;
 
-// n, m, the places of a node and the nodes. Document 01: n, m, M (places a box), N (boxes).
+// n, m, the places of a node and the nodes. The scheme: n, m, M (places a box), N (boxes).
 pub struct Sizes {
     pub n: usize,
     pub m: usize,

@@ -1,4 +1,4 @@
-// The archive's operations for C and Rust: numbers and byte slices in, document 01's number out (include/span_archive.h).
+// The archive's operations for C and Rust: numbers and byte slices in, the answer's number out (include/span_archive.h).
 ghost use mathlib.Core.Path.{_≡_};
 ghost use Prim.Native.Nat.{_<_};
 ghost use lib.ListN.{length};

@@ -1,4 +1,4 @@
--- The operation Vector.
+-- The operation Vector (SCHEME, Operations).
 use Prim.Native.Nat.{ℕ, _+_}
 use mathlib.Core.List.{List, [], _∷_}
 use lib.ListN.{length}
@@ -11,7 +11,7 @@ use Rattle.sizes.specs.Sizes.{nOutside, mOutside}
 use Rattle.sizes.specs.Lengths.{keyLength, idLength}
 use Rattle.tag.specs.KeyVector.{keyVector}
 
--- "1, a size outside its range (Vector only); 2, a buffer of wrong length"
+-- refuses 1, 2
 
 unfoldable pub vectorAnswer : (tagKey id : List ℕ) (n m : ℕ) (out : List ℕ) → Outcome
 vectorAnswer tagKey id n m out =
