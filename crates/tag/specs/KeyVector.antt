@@ -8,12 +8,12 @@ use Rattle.keystream.specs.Draws.{byteAt}
 use Rattle.vector.specs.Vectors.{product, mixed}
 
 -- element i of the key vector, counted from 1: a byte of the stream for the id
-unfoldable pub F1 : (key id : List ℕ) (i : ℕ) → ℕ
-F1 key id i = byteAt key (1 ∷ 0 ∷ 0 ∷ 0 ∷ id) (i - 1)
+unfoldable pub F1 : (tagKey id : List ℕ) (i : ℕ) → ℕ
+F1 tagKey id i = byteAt tagKey (1 ∷ 0 ∷ 0 ∷ 0 ∷ id) (i - 1)
 
 -- the same element, e counted from 0
-unfoldable pub keyVector : (key id : List ℕ) (e : ℕ) → ℕ
-keyVector key id e = F1 key id (e + 1)
+unfoldable pub keyVector : (tagKey id : List ℕ) (e : ℕ) → ℕ
+keyVector tagKey id e = F1 tagKey id (e + 1)
 
 -- a block of len elements and then its tag, which is its product with the key vector
 unfoldable pub withTag : (len : ℕ) (vector block : ℕ → ℕ) (p : ℕ) → ℕ
