@@ -146,7 +146,7 @@ fn judged(
     }
 }
 
-// Accepts or rejects a response, by the tag key, the archive's id and sizes, and the rows of the challenged node.
+// Accepts or rejects a response to a challenge, by the rows that the owner has for the challenged node.
 pub fn verdict(
     tag_key: &[u8],
     id: &[u8],

@@ -134,7 +134,7 @@ fn repair_sizes() {
     repair(b"Repair, no scratch", 2, 0, 1, 1, 1, 2, 2, 0);
 }
 
-// 4, target or a helper; 6, any place of the target filled; 5, any place of a helper empty.
+// 4 for a target or a helper that is not there, 6 for a target that is not empty, 5 for a helper with an empty place.
 fn repair_places() {
     repair(b"Repair, target 3", 4, 3, 1, 1, 1, 2, 2, 6);
     repair(

@@ -51,7 +51,7 @@ fn challenge(
     cases::kept(lent);
 }
 
-// 2, unequal lists; 9, fields out of rule; 2, output length: in that order.
+// The order: 2 for lists of unequal length, 9 for fields, 2 for the output.
 fn challenge_refused() {
     challenge(b"Challenge, lists of 2 and 1", 2, 9, 2, 0, 1, 1, 5);
     challenge(b"Challenge, node 6", 9, 6, 2, 0, 1, 2, 0);
