@@ -1,5 +1,5 @@
 -- Laws of a chain of refusals. Assumes nothing.
-use mathlib.Core.Path.{_≡_, refl, ap, _∙_}
+use mathlib.Core.Path.{_≡_, refl, ap, _∙_, sym}
 use mathlib.Core.Bool.{Bool, true, false}
 use Prim.Native.Nat.{ℕ, _≤_}
 use native.Mathlib.Omega.{arith}
@@ -34,6 +34,13 @@ after-done s t e = rw e
 pub after-refused : {A : Type 0} {o : Outcome} {r : Refusal} (s t : A) → o ≡ Refused r → afterwards o s t ≡ s
 unfolding afterwards
 after-refused s t e = rw e
+
+-- the end of an operation whose check answered: what the work made where it is done, and the buffer as it was where it is refused
+pub written : {A : Type 0} {o answer : Outcome} (before : A) {new w : A} → o ≡ answer → o ≡ Done → w ≡ new → w ≡ afterwards answer before new
+written before {new = new} is done made = made ∙ sym (after-done before new (sym is ∙ done))
+
+pub kept : {A : Type 0} {o answer : Outcome} {r : Refusal} {before : A} (new : A) → o ≡ answer → o ≡ Refused r → before ≡ afterwards answer before new
+kept {before = before} new is refusal = sym (after-refused before new (sym is ∙ refusal))
 
 -- what is known where nothing was refused
 pub accepted : (b : Bool) (r : Refusal) (next : Outcome) → refuse b r next ≡ Done → (b ≡ false) × (next ≡ Done)

@@ -5,14 +5,12 @@ use Prim.Native.Nat.{ℕ}
 use mathlib.Core.List.{List}
 use lib.ListN.{length}
 use Rattle.answer.specs.declared.Outcome.{Outcome}
-use Rattle.answer.specs.declared.Outcome.the-variants.{Done, Refused}
-use Rattle.answer.specs.declared.Refusal.{Refusal}
-use Rattle.answer.proofs.RefusalLaws.{passed, after-done, after-refused}
+use Rattle.answer.proofs.RefusalLaws.{passed}
 use Rattle.sizes.specs.declared.Sizes.{Sizes}
 use Rattle.sizes.proofs.SizeLaws.{Ranged}
 use Rattle.sizes.specs.Lengths.{archiveLength}
-use Rattle.archive.specs.Layout.{sizesOf, idOf, filledIn, badArchive}
-use Rattle.archive.specs.Calls.{Call, answerFor, archiveAnswer, effectFor, archiveAfter}
+use Rattle.archive.specs.Layout.{sizesOf, filledIn, badArchive}
+use Rattle.archive.specs.Calls.{Call, answerFor, archiveAnswer}
 use Rattle.archive.proofs.GoodArchiveLaws.{good-sizes, good-length}
 
 -- the sizes as they were read
@@ -26,12 +24,3 @@ module _ (s : List ℕ) {z : Sizes} (read : z ≡ sizesOf s) (good : badArchive 
   pub answered : (c : Call) {o : Outcome} → o ≡ answerFor z (filledIn z s) c → o ≡ archiveAnswer s c
   unfolding archiveAnswer
   answered c e = e ∙ ap (λ (x : Sizes). answerFor x (filledIn x s) c) read ∙ sym (passed _ _ good)
-
-module _ (s : List ℕ) (c : Call) {o : Outcome} (answer : o ≡ archiveAnswer s c) where
-  pub call-written : o ≡ Done → {w : List ℕ} → w ≡ effectFor (sizesOf s) (idOf s) s c → w ≡ archiveAfter s c
-  unfolding archiveAfter
-  call-written e w = w ∙ sym (after-done _ _ (sym answer ∙ e))
-
-  pub call-kept : {r : Refusal} → o ≡ Refused r → s ≡ archiveAfter s c
-  unfolding archiveAfter
-  call-kept e = sym (after-refused _ _ (sym answer ∙ e))

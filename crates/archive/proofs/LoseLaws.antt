@@ -9,18 +9,16 @@ use lib.ListN.{length}
 use borrow.Author.Tests.{le-leb, lt-leb, leb-false}
 use Rattle.lists.specs.Lists.{put, over}
 use Rattle.lists.proofs.PutLaws.{length-put, grid-put}
-use Rattle.answer.specs.declared.Outcome.{Outcome}
 use Rattle.answer.specs.declared.Outcome.the-variants.{Done, Refused}
-use Rattle.answer.specs.declared.Refusal.{Refusal}
 use Rattle.answer.specs.declared.Refusal.the-variants.{BadArchive, NoSuchPlace}
 use Rattle.answer.specs.Refusals.{Passed}
-use Rattle.answer.proofs.RefusalLaws.{refused, passed, accepted, after-done, after-refused}
+use Rattle.answer.proofs.RefusalLaws.{refused, passed, accepted}
 use Rattle.sizes.specs.declared.Sizes.{Sizes}
 use Rattle.sizes.specs.Sizes.{sizesOutside}
 use Rattle.sizes.proofs.SizeLaws.{Ranged, not-sizes-outside}
 use Rattle.sizes.specs.Lengths.{placeCount, recordLength, recordStart}
 use Rattle.archive.specs.Layout.{sizesOf, idOf, markAt, badArchive, withMarks, stored}
-use Rattle.archive.specs.Calls.{lose, answerFor, archiveAnswer, effectFor, archiveAfter}
+use Rattle.archive.specs.Calls.{lose, answerFor, archiveAnswer, effectFor}
 use Rattle.sizes.proofs.PlaceLaws.{count-low}
 use Rattle.archive.proofs.GoodArchiveLaws.{good-sizes, good-length}
 
@@ -84,12 +82,3 @@ module _ (s : List ℕ) (node : ℕ) {z : Sizes} (done : Passed (archiveAnswer s
       → start ≡ recordStart z (node * z .places) → len ≡ recordLength z → r ≡ put (z .places * len) start (λ i. 0) t
       → r ≡ effectFor (sizesOf s) (idOf s) s (lose node)
   node-emptied p q l e = e ∙ rw (p, q, l, ← sizes) (sym (lose-stores z (idOf s) s node))
-
-module _ (s : List ℕ) (node : ℕ) {o : Outcome} (answer : o ≡ archiveAnswer s (lose node)) where
-  pub lose-written : o ≡ Done → {w : List ℕ} → w ≡ effectFor (sizesOf s) (idOf s) s (lose node) → w ≡ archiveAfter s (lose node)
-  unfolding archiveAfter
-  lose-written e w = w ∙ sym (after-done _ _ (sym answer ∙ e))
-
-  pub lose-kept : {r : Refusal} → o ≡ Refused r → s ≡ archiveAfter s (lose node)
-  unfolding archiveAfter
-  lose-kept e = sym (after-refused _ _ (sym answer ∙ e))

@@ -11,10 +11,9 @@ use Rattle.lists.proofs.TabLaws.{order}
 use Rattle.lists.proofs.PutLaws.{length-put, put-below, put-above, put-at, skip}
 use Rattle.lists.proofs.AnyLaws.{any-first, any-rest, any-two}
 use Rattle.answer.specs.declared.Outcome.{Outcome}
-use Rattle.answer.specs.declared.Outcome.the-variants.{Done, Refused}
-use Rattle.answer.specs.declared.Refusal.{Refusal}
+use Rattle.answer.specs.declared.Outcome.the-variants.{Done}
 use Rattle.answer.specs.Refusals.{differs}
-use Rattle.answer.proofs.RefusalLaws.{accepted, same, after-done, after-refused}
+use Rattle.answer.proofs.RefusalLaws.{accepted, same}
 use Rattle.bits.specs.Fields.{_wide_, bitsOf, widths, packed, pack, withField}
 use Rattle.bits.proofs.PackLaws.{packed-length, packed-at, packed-same, bits-zero, packed-zero, packed-past}
 use Rattle.bits.proofs.AppendLaws.{holds-none, holds-more}
@@ -22,7 +21,7 @@ use Rattle.sizes.specs.declared.Sizes.{Sizes}
 use Rattle.sizes.specs.Sizes.{sizesOutside}
 use Rattle.sizes.specs.Lengths.{archiveLength, recordStart}
 use Rattle.archive.specs.Layout.{sizeFields, archiveOf}
-use Rattle.archive.specs.Open.{opened, openAnswer, openOut}
+use Rattle.archive.specs.Open.{opened, openAnswer}
 use Rattle.sizes.proofs.PlaceLaws.{record-fits}
 use Rattle.archive.proofs.LayoutLaws.{sizes-length, length-archive, archive-front, archive-marks, archive-byte, same-bytes}
 
@@ -40,14 +39,6 @@ module _ (z : Sizes) (id archive : List ℕ) {o : Outcome} (answer : o ≡ openA
       let a = accepted _ _ _ (sym answer ∙ e) in
       let t = accepted _ _ _ (a .1) .0 in
       (a .0, same _ _ (any-first _ _ t), same _ _ (any-first _ _ (any-rest _ _ t)))
-
-  pub open-written : o ≡ Done → {w : List ℕ} → w ≡ opened z id → w ≡ openOut z id archive
-  unfolding openOut
-  open-written e w = w ∙ sym (after-done _ _ (sym answer ∙ e))
-
-  pub open-kept : {r : Refusal} → o ≡ Refused r → archive ≡ openOut z id archive
-  unfolding openOut
-  open-kept e = sym (after-refused _ _ (sym answer ∙ e))
 
 -- ---- the new archive
 

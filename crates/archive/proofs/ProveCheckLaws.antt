@@ -7,17 +7,15 @@ use native.Mathlib.Omega.{arith}
 use lib.ListN.{length}
 use Rattle.lists.specs.Lists.{at, anyOf}
 use Rattle.lists.proofs.AnyLaws.{any-first, any-rest, any-four}
-use Rattle.answer.specs.declared.Outcome.{Outcome}
-use Rattle.answer.specs.declared.Outcome.the-variants.{Done, Refused}
-use Rattle.answer.specs.declared.Refusal.{Refusal}
+use Rattle.answer.specs.declared.Outcome.the-variants.{Done}
 use Rattle.answer.specs.Refusals.{differs}
-use Rattle.answer.proofs.RefusalLaws.{accepted, same, after-done, after-refused}
+use Rattle.answer.proofs.RefusalLaws.{accepted, same}
 use Rattle.sizes.specs.declared.Sizes.{Sizes}
 use Rattle.sizes.specs.Lengths.{responseLength, blockLength, recordLength}
 use Rattle.message.proofs.ResponseLaws.{response-same}
 use Rattle.message.specs.Challenge.{challengeOf, malformedChallenge, notThere}
 use Rattle.archive.specs.Layout.{sizesOf, idOf, badArchive}
-use Rattle.archive.specs.Prove.{proveFor, proveAnswer, responseFor, namedByte, provedFor, proveOut}
+use Rattle.archive.specs.Prove.{proveFor, proveAnswer, responseFor, namedByte, provedFor}
 use Rattle.archive.proofs.GoodArchiveLaws.{good-sizes}
 
 module _ (s maskKey elements seed message out : List ℕ) where
@@ -55,16 +53,6 @@ module _ (s maskKey elements seed message out : List ℕ) where
         seed-length = same _ _ (any-first _ _ u);
         response-length = same _ _ (any-first _ _ (any-rest _ _ u));
       }
-
-  module _ {o : Outcome} (answer : o ≡ proveAnswer s maskKey elements seed message out) where
-    pub prove-written : o ≡ Done → {w : List ℕ} → w ≡ provedFor (sizesOf s) (idOf s) s maskKey elements seed (challengeOf message)
-        → w ≡ proveOut s maskKey elements seed message out
-    unfolding proveOut
-    prove-written e w = w ∙ sym (after-done _ _ (sym answer ∙ e))
-
-    pub prove-kept : {r : Refusal} → o ≡ Refused r → out ≡ proveOut s maskKey elements seed message out
-    unfolding proveOut
-    prove-kept e = sym (after-refused _ _ (sym answer ∙ e))
 
 -- the part of an archive that is its id
 -- the response for the combined records of the named places

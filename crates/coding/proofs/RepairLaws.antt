@@ -13,10 +13,9 @@ use Rattle.lists.proofs.AnyLaws.{any-first, any-rest, any-below, any-two, any-t
 use Rattle.lists.proofs.PutLaws.{grid-same, grid-all, flat-at}
 use Rattle.answer.specs.declared.Outcome.{Outcome}
 use Rattle.answer.specs.declared.Outcome.the-variants.{Done, Refused}
-use Rattle.answer.specs.declared.Refusal.{Refusal}
 use Rattle.answer.specs.declared.Refusal.the-variants.{Size, Length, NoSuchPlace, PlaceEmpty, PlaceFilled}
 use Rattle.answer.specs.Refusals.{Passed, differs, outside}
-use Rattle.answer.proofs.RefusalLaws.{refused, passed, accepted, same, inside, after-done, after-refused}
+use Rattle.answer.proofs.RefusalLaws.{refused, passed, accepted, same, inside}
 use Rattle.field.specs.Field.{times}
 use Rattle.field.proofs.SumLaws.{sum-same, sum-rows}
 use Rattle.sizes.specs.declared.Sizes.{Sizes}
@@ -24,7 +23,7 @@ use Rattle.vector.specs.Vectors.{mixed}
 use Rattle.sizes.proofs.SizeLaws.{Ranged}
 use Rattle.sizes.specs.Lengths.{recordLength, archiveLength, recordStart, placeNumber}
 use Rattle.archive.specs.Layout.{sizesOf, idOf, markAt, byteIn, badArchive, withMarks, stored}
-use Rattle.archive.specs.Calls.{repair, answerFor, archiveAnswer, effectFor, scratchAfter}
+use Rattle.archive.specs.Calls.{repair, answerFor, archiveAnswer, effectFor}
 use Rattle.archive.specs.Repair.{coefficient, repairByte, targetByte, scratchMade}
 use Rattle.sizes.proofs.PlaceLaws.{number-low, count-low, record-fits}
 use Rattle.archive.proofs.GoodArchiveLaws.{good-sizes, good-length}
@@ -285,15 +284,3 @@ module _ (z : Sizes) (s helpers : List ℕ) (q : ℕ) (gammas thetas : List ℕ)
       ∙ grid-same (z .places) (recordLength z) (recordStart z (target * z .places)) _ (targetByte z s helpers q gammas thetas) _
       (λ k e h he. target-made k e {made = made} low he (rw read blocks))
       ∙ target-effect target scratch ∙ ap (λ (x : Sizes). effectFor x (idOf s) s (repair target helpers q gammas thetas scratch)) read
-
--- ---- the scratch buffer after the answer
-
-module _ (s : List ℕ) (target : ℕ) (helpers : List ℕ) (q : ℕ) (gammas thetas scratch : List ℕ) {o : Outcome}
-    (answer : o ≡ archiveAnswer s (repair target helpers q gammas thetas (length scratch))) where
-  pub scratch-written : o ≡ Done → {w : List ℕ} → w ≡ scratchMade (sizesOf s) s helpers q gammas → w ≡ scratchAfter s target helpers q gammas thetas scratch
-  unfolding scratchAfter
-  scratch-written e w = w ∙ sym (after-done _ _ (sym answer ∙ e))
-
-  pub scratch-kept : {r : Refusal} → o ≡ Refused r → scratch ≡ scratchAfter s target helpers q gammas thetas scratch
-  unfolding scratchAfter
-  scratch-kept e = sym (after-refused _ _ (sym answer ∙ e))

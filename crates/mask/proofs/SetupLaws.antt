@@ -9,9 +9,8 @@ use Rattle.lists.proofs.TabLaws.{tab-same}
 use Rattle.lists.proofs.PutLaws.{put-front}
 use Rattle.lists.proofs.AnyLaws.{any-first, any-rest}
 use Rattle.answer.specs.declared.Outcome.{Outcome}
-use Rattle.answer.specs.declared.Outcome.the-variants.{Done, Refused}
-use Rattle.answer.specs.declared.Refusal.{Refusal}
-use Rattle.answer.proofs.RefusalLaws.{accepted, same, inside, after-done, after-refused}
+use Rattle.answer.specs.declared.Outcome.the-variants.{Done}
+use Rattle.answer.proofs.RefusalLaws.{accepted, same, inside}
 use Rattle.field.proofs.SumLaws.{sum-same}
 use Rattle.field.proofs.TimesLaws.{times-comm}
 use Rattle.keystream.specs.PrivateStream.{fresh, drawn, after}
@@ -22,7 +21,7 @@ use Rattle.vector.specs.Vectors.{product, added}
 use Rattle.vector.proofs.VectorLaws.{mixed-same, product-keys}
 use Rattle.vector.proofs.AddedLaws.{added-same}
 use Rattle.mask.specs.Masks.{F3, maskRow, maskCoefficient, auxiliary, mask, maskSum}
-use Rattle.mask.specs.Setup.{setupAnswer, setupOut}
+use Rattle.mask.specs.Setup.{setupAnswer}
 
 -- ---- Setup
 
@@ -36,14 +35,6 @@ module _ (tagKey maskKey id : List ℕ) (n : ℕ) (out : List ℕ) {o : Outcome}
       let t = accepted _ _ _ (a .1) .0 in
       let u = any-rest _ _ (any-rest _ _ t) in
       (r .0, r .1, same _ _ (any-first _ _ t), same _ _ (any-first _ _ (any-rest _ _ t)), same _ _ (any-first _ _ u), same _ _ (any-first _ _ (any-rest _ _ u)))
-
-  pub setup-written : o ≡ Done → {w : List ℕ} → w ≡ auxiliary n (keyVector tagKey id) (maskRow maskKey id) → w ≡ setupOut tagKey maskKey id n out
-  unfolding setupOut
-  setup-written e w = w ∙ sym (after-done _ _ (sym answer ∙ e))
-
-  pub setup-kept : {r : Refusal} → o ≡ Refused r → out ≡ setupOut tagKey maskKey id n out
-  unfolding setupOut
-  setup-kept e = sym (after-refused _ _ (sym answer ∙ e))
 
 -- auxiliary elements over equal key elements
 pub auxiliary-same : (n : ℕ) (v v′ : ℕ → ℕ) (rows : ℕ → ℕ → ℕ) → ((e : ℕ) → e < n - 2 → v e ≡ v′ e) → auxiliary n v rows ≡ auxiliary n v′ rows

@@ -6,13 +6,12 @@ use native.Mathlib.Omega.{arith}
 use lib.ListN.{length}
 use Rattle.lists.specs.Lists.{at, tab}
 use Rattle.answer.specs.declared.Outcome.{Outcome}
-use Rattle.answer.specs.declared.Outcome.the-variants.{Done, Refused}
-use Rattle.answer.specs.declared.Refusal.{Refusal}
-use Rattle.answer.proofs.RefusalLaws.{accepted, same, after-refused}
+use Rattle.answer.specs.declared.Outcome.the-variants.{Done}
+use Rattle.answer.proofs.RefusalLaws.{accepted, same}
 use Rattle.bits.specs.Fields.{_wide_, withField}
 use Rattle.bits.proofs.AppendLaws.{Holds, holds-none, holds-more, holds-packed}
-use Rattle.message.specs.Challenge.{Challenge, challengeFor, items, challengeBits, challengeLength, challengeBytes, challengeAnswer, challengeOut}
-use Rattle.message.proofs.ChallengeLaws.{items-split, fieldsBefore, in-rule, asked-even, asked-rule, asked-bytes}
+use Rattle.message.specs.Challenge.{Challenge, challengeFor, items, challengeBits, challengeLength, challengeBytes, challengeAnswer}
+use Rattle.message.proofs.ChallengeLaws.{items-split, fieldsBefore, in-rule, asked-even, asked-rule}
 
 -- ---- writing
 
@@ -56,10 +55,3 @@ module _ (c : Challenge) (message : List ℕ) {o : Outcome} (answer : o ≡ chal
   challenge-lengths e =
       let a = sym answer ∙ e in
       (in-rule c (asked-rule c message a) .few, asked-even c message a, same _ _ (accepted _ _ _ (accepted _ _ _ (accepted _ _ _ a .1) .1) .0))
-
-  pub challenge-written : o ≡ Done → {written : List ℕ} → written ≡ challengeBytes c → written ≡ challengeOut c message
-  challenge-written e w = w ∙ sym (asked-bytes c message (sym answer ∙ e))
-
-  pub challenge-kept : {r : Refusal} → o ≡ Refused r → message ≡ challengeOut c message
-  unfolding challengeOut
-  challenge-kept e = sym (after-refused message (challengeBytes c) (sym answer ∙ e))

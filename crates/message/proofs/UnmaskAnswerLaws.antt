@@ -10,16 +10,15 @@ use Rattle.lists.proofs.TabLaws.{is-tab}
 use Rattle.lists.proofs.PutLaws.{length-put, put-front}
 use Rattle.lists.proofs.AnyLaws.{any-first, any-rest}
 use Rattle.answer.specs.declared.Outcome.{Outcome}
-use Rattle.answer.specs.declared.Outcome.the-variants.{Done, Refused}
-use Rattle.answer.specs.declared.Refusal.{Refusal}
-use Rattle.answer.proofs.RefusalLaws.{accepted, same, inside, after-done, after-refused}
+use Rattle.answer.specs.declared.Outcome.the-variants.{Done}
+use Rattle.answer.proofs.RefusalLaws.{accepted, same, inside}
 use Rattle.field.specs.Field.{plus}
 use Rattle.vector.specs.Vectors.{added}
 use Rattle.vector.proofs.AddedLaws.{length-added, added-at}
 use Rattle.mask.specs.Masks.{maskRow, maskCoefficient, mask}
 use Rattle.sizes.specs.Lengths.{responseLength}
 use Rattle.message.specs.Response.{dataIn, seedIn}
-use Rattle.message.specs.Unmask.{unmaskAnswer, unmasked, unmaskOut}
+use Rattle.message.specs.Unmask.{unmaskAnswer, unmasked}
 
 module _ (n : ℕ) (id maskKey response out : List ℕ) {o : Outcome} (answer : o ≡ unmaskAnswer n id maskKey response out) where
   pub unmask-sizes : o ≡ Done
@@ -31,14 +30,6 @@ module _ (n : ℕ) (id maskKey response out : List ℕ) {o : Outcome} (answer : 
       let t = accepted _ _ _ (a .1) .0 in
       let u = any-rest _ _ (any-rest _ _ t) in
       (r .0, r .1, same _ _ (any-first _ _ t), same _ _ (any-first _ _ (any-rest _ _ t)), same _ _ (any-first _ _ u), same _ _ (any-first _ _ (any-rest _ _ u)))
-
-  pub unmask-written : o ≡ Done → {w : List ℕ} → w ≡ tab (n - 2) (unmasked n id maskKey response) → w ≡ unmaskOut n id maskKey response out
-  unfolding unmaskOut
-  unmask-written e w = w ∙ sym (after-done _ _ (sym answer ∙ e))
-
-  pub unmask-kept : {r : Refusal} → o ≡ Refused r → out ≡ unmaskOut n id maskKey response out
-  unfolding unmaskOut
-  unmask-kept e = sym (after-refused _ _ (sym answer ∙ e))
 
 -- the part of a response that is its seed
 pub seed-part : (n k : ℕ) (response : List ℕ) → k ≡ 11 → take k (drop (n - 1) response) ≡ seedIn n response

@@ -7,12 +7,11 @@ use Rattle.lists.specs.Lists.{tab}
 use Rattle.lists.proofs.TabLaws.{tab-same}
 use Rattle.lists.proofs.AnyLaws.{any-first, any-rest}
 use Rattle.answer.specs.declared.Outcome.{Outcome}
-use Rattle.answer.specs.declared.Outcome.the-variants.{Done, Refused}
-use Rattle.answer.specs.declared.Refusal.{Refusal}
-use Rattle.answer.proofs.RefusalLaws.{accepted, same, after-done, after-refused}
+use Rattle.answer.specs.declared.Outcome.the-variants.{Done}
+use Rattle.answer.proofs.RefusalLaws.{accepted, same}
 use Rattle.keystream.specs.declared.stream.Stream.{Stream}
 use Rattle.keystream.specs.PrivateStream.{drawn, after}
-use Rattle.tag.specs.Vector.{vectorAnswer, vectorOut}
+use Rattle.tag.specs.Vector.{vectorAnswer}
 use Rattle.tag.specs.KeyVector.{keyVector}
 use Rattle.tag.specs.PrivateKeyStream.{GivesKeyVector}
 
@@ -23,13 +22,6 @@ module _ (key id : List ℕ) (n m : ℕ) (out : List ℕ) {o : Outcome} (answer 
       let t = accepted _ _ _ (accepted _ _ _ (sym answer ∙ e) .1) .0 in
       (same _ _ (any-first _ _ t), same _ _ (any-first _ _ (any-rest _ _ t)), same _ _ (any-first _ _ (any-rest _ _ (any-rest _ _ t))))
 
-  pub vector-written : o ≡ Done → {written : List ℕ} (s : Stream) → GivesKeyVector key id s
-      → written ≡ tab (length out) (λ i. drawn (after i s) .byte) → written ≡ vectorOut key id n m out
-  unfolding vectorOut
-  vector-written e s gives w =
-      w ∙ rw (vector-lengths e .2) (tab-same (n + m) _ (keyVector key id) (λ i h. gives i))
-      ∙ sym (after-done out (tab (n + m) (keyVector key id)) (sym answer ∙ e))
-
-  pub vector-kept : {r : Refusal} → o ≡ Refused r → out ≡ vectorOut key id n m out
-  unfolding vectorOut
-  vector-kept e = sym (after-refused out (tab (n + m) (keyVector key id)) (sym answer ∙ e))
+  pub vector-drawn : o ≡ Done → {made : List ℕ} (s : Stream) → GivesKeyVector key id s → made ≡ tab (length out) (λ i. drawn (after i s) .byte)
+      → made ≡ tab (n + m) (keyVector key id)
+  vector-drawn e s gives w = w ∙ rw (vector-lengths e .2) (tab-same (n + m) _ (keyVector key id) (λ i h. gives i))

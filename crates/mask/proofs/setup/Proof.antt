@@ -1,5 +1,7 @@
 use borrow.Author.Needs.{needs}
-use Rattle.mask.proofs.SetupLaws.{setup-sizes, setup-written, setup-kept}
+use Rattle.answer.proofs.RefusalLaws.{written, kept}
+use Rattle.mask.proofs.SetupLaws.{setup-sizes}
+use Rattle.mask.specs.Setup.{setupOut}
 use Rattle.mask.proofs.setup.Statement.{statement}
 use Rattle.mask.proofs.setup.Tie as tie
 
@@ -8,15 +10,17 @@ setup-into-requires c κs =
     setup-sizes _ _ _ _ _ (c .before .before .before .setup-check .ensures) (c .before .enum-told .given .1)
 
 returns : tie.Need-returns
+unfolding setupOut
 returns c =
     let t = c .before .before .before .before in
     let a = t .before .before .setup-check .ensures in
-    (a, setup-written _ _ _ _ _ a (t .enum-told .given .1) (c .before .before .setup-into .ensures))
+    (a, written _ a (t .enum-told .given .1) (c .before .before .setup-into .ensures))
 
 returns-2 : tie.Need-returns-2
+unfolding setupOut
 returns-2 c =
     let a = c .before .before .setup-check .ensures in
-    (a, setup-kept _ _ _ _ _ a (c .enum-told2 .given .1))
+    (a, kept _ a (c .enum-told2 .given .1))
 
 pub setup-spec : {M : Type 1} → statement M
 setup-spec =

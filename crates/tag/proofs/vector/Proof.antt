@@ -1,5 +1,7 @@
 use borrow.Author.Needs.{needs}
-use Rattle.tag.proofs.VectorAnswerLaws.{vector-lengths, vector-written, vector-kept}
+use Rattle.answer.proofs.RefusalLaws.{written, kept}
+use Rattle.tag.specs.Vector.{vectorOut}
+use Rattle.tag.proofs.VectorAnswerLaws.{vector-lengths, vector-drawn}
 use Rattle.tag.proofs.vector.Statement.{statement}
 use Rattle.tag.proofs.vector.Tie as tie
 
@@ -9,16 +11,19 @@ key-stream-requires c κs =
     (l .0, l .1)
 
 returns : tie.Need-returns
+unfolding vectorOut
 returns c =
     let stream = c .before .before .before .before in
     let told = stream .before in
     let a = told .before .before .vector-check .ensures in
-    (a, vector-written _ _ _ _ _ a (told .enum-told .given .1) _ (stream .key-stream .ensures) (c .before .before .draw-into .ensures))
+    let done = told .enum-told .given .1 in
+    (a, written _ a done (vector-drawn _ _ _ _ _ a done _ (stream .key-stream .ensures) (c .before .before .draw-into .ensures)))
 
 returns-2 : tie.Need-returns-2
+unfolding vectorOut
 returns-2 c =
     let a = c .before .before .vector-check .ensures in
-    (a, vector-kept _ _ _ _ _ a (c .enum-told2 .given .1))
+    (a, kept _ a (c .enum-told2 .given .1))
 
 pub vector-spec : {M : Type 1} → statement M
 vector-spec =

@@ -1,6 +1,7 @@
 use borrow.Author.Needs.{needs}
 use mathlib.Core.Path.{sym, _∙_}
-use Rattle.archive.proofs.LoseLaws.{lose-written, lose-kept}
+use Rattle.answer.proofs.RefusalLaws.{written, kept}
+use Rattle.archive.specs.Calls.{archiveAfter}
 use Rattle.archive.proofs.losing.lose.Statement.{statement}
 use Rattle.archive.proofs.losing.lose.Tie as tie
 
@@ -8,14 +9,16 @@ empty-node-requires : tie.Need-empty-node-requires
 empty-node-requires c κs = sym (c .before .before .before .lose-check .ensures) ∙ c .before .enum-told .given .1
 
 returns : tie.Need-returns
+unfolding archiveAfter
 returns c =
     let a = c .before .before .before .before .before .before .lose-check .ensures in
-    (a, lose-written _ _ a (c .before .before .before .before .enum-told .given .1) (c .before .before .empty-node .ensures))
+    (a, written _ a (c .before .before .before .before .enum-told .given .1) (c .before .before .empty-node .ensures))
 
 returns-2 : tie.Need-returns-2
+unfolding archiveAfter
 returns-2 c =
     let a = c .before .before .lose-check .ensures in
-    (a, lose-kept _ _ a (c .enum-told2 .given .1))
+    (a, kept _ a (c .enum-told2 .given .1))
 
 pub lose-spec : {M : Type 1} → statement M
 lose-spec =

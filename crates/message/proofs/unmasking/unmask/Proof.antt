@@ -1,5 +1,7 @@
 use borrow.Author.Needs.{needs}
-use Rattle.message.proofs.UnmaskAnswerLaws.{unmask-sizes, unmask-written, unmask-kept}
+use Rattle.answer.proofs.RefusalLaws.{written, kept}
+use Rattle.message.proofs.UnmaskAnswerLaws.{unmask-sizes}
+use Rattle.message.specs.Unmask.{unmaskOut}
 use Rattle.message.proofs.unmasking.unmask.Statement.{statement}
 use Rattle.message.proofs.unmasking.unmask.Tie as tie
 
@@ -8,15 +10,17 @@ unmask-into-requires c κs =
     unmask-sizes _ _ _ _ _ (c .before .before .before .unmask-check .ensures) (c .before .enum-told .given .1)
 
 returns : tie.Need-returns
+unfolding unmaskOut
 returns c =
     let t = c .before .before .before .before in
     let a = t .before .before .unmask-check .ensures in
-    (a, unmask-written _ _ _ _ _ a (t .enum-told .given .1) (c .before .before .unmask-into .ensures))
+    (a, written _ a (t .enum-told .given .1) (c .before .before .unmask-into .ensures))
 
 returns-2 : tie.Need-returns-2
+unfolding unmaskOut
 returns-2 c =
     let a = c .before .before .unmask-check .ensures in
-    (a, unmask-kept _ _ _ _ _ a (c .enum-told2 .given .1))
+    (a, kept _ a (c .enum-told2 .given .1))
 
 pub unmask-spec : {M : Type 1} → statement M
 unmask-spec =
