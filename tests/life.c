@@ -1,41 +1,9 @@
 /* The life in numbers through the exported functions: every answer and every byte, with guards around each buffer. Ends with status 0
    where all are as expected. */
-#include <stdio.h>
-#include <stdlib.h>
-#include <string.h>
-
 #include "../include/span_archive.h"
+#include "expect.h"
 
-enum { GUARD = 16, ARCHIVE = 54, SCRATCH = 24, RESPONSE = 17 };
-
-static int failures;
-
-static void expect(const char *what, int same) {
-    if (same) return;
-    failures++;
-    printf("DIFFERENT: %s\n", what);
-}
-
-static void answer(const char *what, unsigned expected, unsigned got) {
-    if (expected != got) printf("%s: expected %u, got %u\n", what, expected, got);
-    expect(what, expected == got);
-}
-
-/* A buffer of its own, of just `len` bytes between two guards. */
-static uint8_t *lend(const uint8_t *from, size_t len) {
-    uint8_t *p = malloc(len + 2 * GUARD);
-    if (!p) abort();
-    memset(p, 0xa5, len + 2 * GUARD);
-    if (from) memcpy(p + GUARD, from, len);
-    return p + GUARD;
-}
-
-static void give_back(const char *what, uint8_t *p, size_t len) {
-    uint8_t guard[GUARD];
-    memset(guard, 0xa5, GUARD);
-    expect(what, !memcmp(p - GUARD, guard, GUARD) && !memcmp(p + len, guard, GUARD));
-    free(p - GUARD);
-}
+enum { ARCHIVE = 54, SCRATCH = 24, RESPONSE = 17 };
 
 static const uint8_t id[8] = {1, 2, 3, 4, 5, 6, 7, 8}, file[2] = {0x57, 0x01}, padding[4] = {0x01, 0x00, 0x00, 0x04};
 static const uint8_t gammas[8] = {0x01, 0x08, 0x0f, 0x16, 0x1d, 0x24, 0x2b, 0x32}, thetas[8] = {0x03, 0x20, 0x3d, 0x5a, 0x77, 0x94, 0xb1, 0xce};

@@ -1,0 +1,106 @@
+/* A life at the largest sizes through the exported functions: every answer and every byte beside plain C (bench/plain.c), with guards
+   around each buffer. Ends with status 0 where all agree. */
+#include "../bench/plain.h"
+#include "../include/span_archive.h"
+#include "expect.h"
+
+static uint8_t tag_key[32], mask_key[32], theirs[ARCHIVE], *ours;
+
+static void same_archive(const char *what) { expect(what, !memcmp(ours, theirs, ARCHIVE)); }
+
+/* Open; Encode of each place of nodes 0 to 4; Repair of node 5 by them. */
+static void fill_all(void) {
+    static uint8_t blocks[SCRATCH];
+    uint8_t *scratch = lend(NULL, SCRATCH);
+    answer("open", 0, span_open(N, M, PLACES, NODES, id, 8, ours, ARCHIVE));
+    c_open(theirs);
+    same_archive("the new archive");
+    for (size_t k = 0; k < HELPERS * PLACES; k++) {
+        const uint8_t *row = inputs.table + k * M;
+        answer("encode", 0, span_encode(ours, ARCHIVE, k / PLACES, k % PLACES, inputs.file, FILE_LENGTH, inputs.padding, 2 * M, tag_key, 32,
+                                        row, M));
+        c_encode(theirs, k, tag_key, row);
+        same_archive("the archive after encode");
+    }
+    answer("repair", 0, span_repair(ours, ARCHIVE, 5, helpers, HELPERS, Q, inputs.gammas, COEFFICIENTS, inputs.thetas, COEFFICIENTS, scratch,
+                                    SCRATCH));
+    c_repair(theirs, 5, helpers, blocks);
+    expect("the repair blocks", !memcmp(scratch, blocks, SCRATCH));
+    same_archive("the archive after repair");
+    give_back("repair's scratch", scratch, SCRATCH);
+}
+
+static void setup(void) {
+    uint8_t *auxiliary = lend(NULL, N - 1);
+    answer("setup", 0, span_setup(tag_key, 32, mask_key, 32, id, 8, N, auxiliary, N - 1));
+    c_setup(tag_key, mask_key, id, inputs.auxiliary);
+    expect("the auxiliary elements", !memcmp(auxiliary, inputs.auxiliary, N - 1));
+    give_back("setup's elements", auxiliary, N - 1);
+}
+
+/* Verdict on a response, with the rows that the node's records have. */
+static void judge(unsigned expected, size_t node, const uint8_t *message, const uint8_t *response) {
+    uint8_t rows[PLACES * M];
+    for (size_t k = 0; k < PLACES; k++) memcpy(rows + k * M, theirs + 18 + (node * PLACES + k) * RECORD + N, M);
+    answer("plain verdict", expected, c_verdict(tag_key, rows, inputs.coefficients, response));
+    answer("verdict", expected,
+           span_verdict(tag_key, 32, id, 8, N, M, PLACES, NODES, rows, PLACES * M, message, MESSAGE, response, RESPONSE));
+}
+
+/* Challenge of all places of a node, Prove, Verdict and Unmask; and Verdict on a response that was changed. */
+static void audit(size_t node) {
+    uint8_t *message = lend(NULL, MESSAGE), *response = lend(NULL, RESPONSE), *block = lend(NULL, N - 2);
+    uint8_t asked[MESSAGE], plain[RESPONSE], bare[N - 2];
+    answer("challenge", 0, span_challenge(node, items, PLACES, inputs.coefficients, PLACES, message, MESSAGE));
+    c_challenge(node, inputs.coefficients, asked);
+    expect("the challenge", !memcmp(message, asked, MESSAGE));
+    answer("prove", 0, span_prove(ours, ARCHIVE, mask_key, 32, inputs.auxiliary, N - 1, seed, 11, message, MESSAGE, response, RESPONSE));
+    c_prove(theirs, node, inputs.coefficients, mask_key, seed, plain);
+    expect("the response", !memcmp(response, plain, RESPONSE));
+    judge(0, node, message, response);
+    answer("unmask", 0, span_unmask(N, id, 8, mask_key, 32, response, RESPONSE, block, N - 2));
+    c_unmask(id, mask_key, plain, bare);
+    expect("the unmasked bytes", !memcmp(block, bare, N - 2));
+    response[1] ^= 1;
+    judge(255, node, message, response);
+    give_back("challenge's message", message, MESSAGE);
+    give_back("prove's response", response, RESPONSE);
+    give_back("unmask's block", block, N - 2);
+}
+
+/* Inventory and Read; a Read that is refused leaves the file as it was lent. */
+static void list_and_read(void) {
+    static uint8_t plain[FILE_LENGTH];
+    uint8_t *list = lend(NULL, NODES * PLACES), *file = lend(NULL, FILE_LENGTH), listed[NODES * PLACES], count = 0, consulted = 0;
+    size_t filled = c_inventory(theirs, listed), taken;
+    memcpy(plain, file, FILE_LENGTH);
+    taken = c_read(theirs, plain);
+    answer("inventory", 0, span_inventory(ours, ARCHIVE, list, NODES * PLACES, &count));
+    expect("the list", count == filled && !memcmp(list, listed, NODES * PLACES));
+    answer("read", filled < M ? 8 : 0, span_read(ours, ARCHIVE, file, FILE_LENGTH, &consulted));
+    expect("the file", consulted == taken && !memcmp(file, plain, FILE_LENGTH));
+    expect("the file as it was encoded", filled < M || !memcmp(file, inputs.file, FILE_LENGTH));
+    give_back("inventory's list", list, NODES * PLACES);
+    give_back("read's file", file, FILE_LENGTH);
+}
+
+int main(void) {
+    c_start();
+    for (int i = 0; i < 32; i++) tag_key[i] = (uint8_t)i, mask_key[i] = (uint8_t)(100 + i);
+    ours = lend(NULL, ARCHIVE);
+    setup();
+    fill_all();
+    audit(0);
+    audit(5);
+    /* Node by node is lost: at last the file comes from node 4 and the rebuilt node 5, and then no more. */
+    for (size_t node = 0; node < NODES; node++) {
+        list_and_read();
+        answer("lose", 0, span_lose(ours, ARCHIVE, node));
+        c_lose(theirs, node);
+        same_archive("the archive after lose");
+    }
+    list_and_read();
+    give_back("the archive", ours, ARCHIVE);
+    if (!failures) puts("a life at the largest sizes through the C library: every answer and every byte as in plain C");
+    return failures != 0;
+}
