@@ -5,8 +5,8 @@
    else the first refusal below that applies, in the order given with it, and then every lent byte is as it was. docs/SCHEME.md has the whole
    scheme; a node is what it calls a box.
 
-   Threads: the library has no writable data of its own, so calls on different buffers may run at once. Alignment: none is asked for. Stack: 12 KiB
-   are enough at any sizes (measured by tests/run, not proved). Mapped memory: an archive may be a mapped file; a fault in it is the caller's.
+   Threads: the library has no writable data of its own, so calls on different buffers may run at once. Alignment: none is asked for. Stack: below
+   12 KiB at the largest sizes (measured by tests/run, not proved). Mapped memory: an archive may be a mapped file; a fault in it is the caller's.
    Timing: it depends on lengths, sizes, marks, rows, coefficients and data; nothing is constant-time.
 
    The bytes of an archive: 4 of packed sizes (layout 1 in 4 bits, n in 11, m in 5, places in 4, nodes in 3, five zero bits), the id from byte 4,
