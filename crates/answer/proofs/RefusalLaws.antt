@@ -1,12 +1,13 @@
 -- Laws of a chain of refusals. Assumes nothing.
-use mathlib.Core.Path.{_≡_, refl, ap, _∙_, sym}
-use mathlib.Core.Bool.{Bool, true, false}
+use mathlib.Core.Path.{_≡_, refl, sym, ap, ap₂, _∙_}
+use mathlib.Core.Bool.{Bool, true, false, _||_}
+use mathlib.Core.List.{List, [], _∷_}
 use Prim.Native.Nat.{ℕ, _≤_}
 use native.Mathlib.Omega.{arith}
 use lib.Dec.{eqb}
 use borrow.Author.Tests.{eq-eqb, ne-eqb, eqb-true, not-false, ltb-false, le-ltb}
 use Rattle.lists.specs.Lists.{anyOf}
-use Rattle.lists.proofs.AnyLaws.{any-first, any-rest}
+use Rattle.lists.proofs.AnyLaws.{none-at, orAll, any-of}
 use Rattle.answer.specs.declared.Refusal.{Refusal}
 use Rattle.answer.specs.declared.Outcome.{Outcome}
 use Rattle.answer.specs.declared.Outcome.the-variants.{Done, Refused}
@@ -20,6 +21,14 @@ refused r next e = rw e
 pub passed : {b : Bool} (r : Refusal) (next : Outcome) → b ≡ false → refuse b r next ≡ next
 unfolding refuse
 passed r next e = rw e
+
+-- a test that is a list, as code writes it
+pub listed : (t : Bool) (us : List Bool) {b : Bool} → orAll t us ≡ b → anyOf (t ∷ us) ≡ b
+listed t us e = sym (any-of t us) ∙ e
+
+-- two tests that were found by calls
+pub found : {a b t u v : Bool} → a ≡ t → b ≡ u → (a || b) ≡ v → anyOf (t ∷ u ∷ []) ≡ v
+found {t = t} {u = u} p q e = listed t (u ∷ []) (ap₂ _||_ (sym p) (sym q) ∙ e)
 
 pub differs-same : {a b : ℕ} → a ≡ b → differs a b ≡ false
 differs-same {a} {b} e = rw (eq-eqb a b e)
@@ -63,7 +72,7 @@ same x y e = eqb-true x y (not-false (eqb x y) e)
 -- x is in its range
 pub inside : (lo hi x : ℕ) → outside lo hi x ≡ false → (lo ≤ x) × (x ≤ hi)
 unfolding outside
-inside lo hi x e = (ltb-false x lo (any-first _ _ e), ltb-false hi x (any-first _ _ (any-rest _ _ e)))
+inside lo hi x e = (ltb-false x lo (none-at _ 0 e), ltb-false hi x (none-at _ 1 e))
 
 pub not-outside : (lo hi x : ℕ) → lo ≤ x → x ≤ hi → outside lo hi x ≡ false
 unfolding outside anyOf

@@ -7,7 +7,7 @@ use native.Mathlib.Omega.{arith}
 use lib.Dec.{leb}
 use lib.ListN.{length}
 use Rattle.lists.specs.Lists.{pick, anyOf, anyBelow}
-use Rattle.lists.proofs.AnyLaws.{any-here, any-there, any-last, or-false, any-three, any-append, both-pick}
+use Rattle.lists.proofs.AnyLaws.{any-here, any-there, any-last, or-false, any-of, any-append, both-pick}
 use Rattle.answer.specs.Refusals.{differs}
 use Rattle.answer.proofs.RefusalLaws.{differs-same, differs-other}
 use Rattle.bits.specs.Fields.{fieldAt}
@@ -35,7 +35,7 @@ module _ (s : List ℕ) {z : Sizes} {layout spare : ℕ} {outside : Bool}
 
   tests : badArchive s ≡ anyOf (header ∷ anyBelow 48 (spareMark s (placeCount z)) ∷ differs (length s) (archiveLength z) ∷ [])
   unfolding badFor
-  tests = rw (any-three (differs layout 1) outside (differs spare 0), ranges, sizes, first, last) (any-append _ _)
+  tests = rw (any-of (differs layout 1) (outside ∷ differs spare 0 ∷ []), ranges, sizes, first, last) (any-append _ _)
 
   pub header-bad : header ≡ true → badArchive s ≡ true
   header-bad e = tests ∙ any-here _ _ e

@@ -5,7 +5,7 @@ use mathlib.Core.Bool.{false}
 use mathlib.Core.List.{List}
 use native.Mathlib.Omega.{arith}
 use lib.ListN.{length, length-take, length-drop}
-use Rattle.lists.proofs.AnyLaws.{any-first, any-rest}
+use Rattle.lists.proofs.AnyLaws.{none-at}
 use Rattle.answer.proofs.RefusalLaws.{same}
 use Rattle.sizes.specs.Lengths.{archiveLength}
 use Rattle.archive.specs.Layout.{sizesOf, idOf, badFor, badArchive}
@@ -14,11 +14,11 @@ use Rattle.sizes.proofs.SizeLaws.{Ranged, ranged}
 module _ (s : List ℕ) (good : badArchive s ≡ false) where
   pub good-sizes : Ranged (sizesOf s)
   unfolding badFor
-  good-sizes = ranged (sizesOf s) (any-first _ _ (any-rest _ _ good))
+  good-sizes = ranged (sizesOf s) (none-at _ 1 good)
 
   pub good-length : length s ≡ archiveLength (sizesOf s)
   unfolding badFor
-  good-length = same _ _ (any-first _ _ (any-rest _ _ (any-rest _ _ (any-rest _ _ (any-rest _ _ good)))))
+  good-length = same _ _ (none-at _ 4 good)
 
   pub good-id : length (idOf s) ≡ 8
   unfolding idOf

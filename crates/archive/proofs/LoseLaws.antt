@@ -1,18 +1,16 @@
 -- What Lose's answer tells, and what it writes. Assumes nothing.
 use Prim.Native.Nat.{ℕ, _+_, _*_, _<_, _≤_}
 use mathlib.Core.Path.{_≡_, sym, _∙_}
-use mathlib.Core.Bool.{Bool, true, false}
+use mathlib.Core.Bool.{Bool, false}
 use mathlib.Core.List.{List}
 use native.Mathlib.Nat.{add-zero, mul-le-mul-right}
 use native.Mathlib.Omega.{arith}
 use lib.ListN.{length}
-use borrow.Author.Tests.{le-leb, lt-leb, leb-false}
+use borrow.Author.Tests.{leb-false}
 use Rattle.lists.specs.Lists.{put, over}
 use Rattle.lists.proofs.PutLaws.{length-put, grid-put}
-use Rattle.answer.specs.declared.Outcome.the-variants.{Done, Refused}
-use Rattle.answer.specs.declared.Refusal.the-variants.{BadArchive, NoSuchPlace}
 use Rattle.answer.specs.Refusals.{Passed}
-use Rattle.answer.proofs.RefusalLaws.{refused, passed, accepted}
+use Rattle.answer.proofs.RefusalLaws.{accepted}
 use Rattle.sizes.specs.declared.Sizes.{Sizes}
 use Rattle.sizes.specs.Sizes.{sizesOutside}
 use Rattle.sizes.proofs.SizeLaws.{Ranged, not-sizes-outside}
@@ -21,24 +19,6 @@ use Rattle.archive.specs.Layout.{sizesOf, idOf, markAt, badArchive, with
 use Rattle.archive.specs.Calls.{lose, answerFor, archiveAnswer, effectFor}
 use Rattle.sizes.proofs.PlaceLaws.{count-low}
 use Rattle.archive.proofs.GoodArchiveLaws.{good-sizes, good-length}
-
--- ---- the answer, refusal by refusal
-
-module _ (s : List ℕ) (node : ℕ) where
-  pub lose-bad : badArchive s ≡ true → Refused BadArchive ≡ archiveAnswer s (lose node)
-  unfolding archiveAnswer
-  lose-bad e = sym (refused _ _ e)
-
-  module _ {z : Sizes} (good : badArchive s ≡ false) (sizes : z ≡ sizesOf s) where
-    pub lose-nowhere : z .nodes ≤ node → Refused NoSuchPlace ≡ archiveAnswer s (lose node)
-    unfolding archiveAnswer answerFor
-    lose-nowhere h = sym (passed _ _ good ∙ refused _ _ (le-leb _ _ (rw sizes at h)))
-
-    pub lose-there : node < z .nodes → Done ≡ archiveAnswer s (lose node)
-    unfolding archiveAnswer answerFor
-    lose-there h = sym (passed _ _ good ∙ passed _ _ (lt-leb _ _ (rw sizes at h)))
-
--- ---- where nothing is refused
 
 -- no marks, then zero records
 lose-stores : (z : Sizes) (id s : List ℕ) (node : ℕ)

@@ -1,18 +1,17 @@
 -- What Open's answer tells, and what it writes. Assumes nothing.
 use Prim.Native.Nat.{ℕ, _+_, _-_, _<_, _≤_}
 use mathlib.Core.Path.{_≡_, refl, sym, ap, _∙_}
-use mathlib.Core.Bool.{Bool, false, _||_}
+use mathlib.Core.Bool.{false}
 use mathlib.Core.List.{List, [], _∷_, _++_}
 use mathlib.Core.Logic.{⊎-elim}
 use native.Mathlib.Omega.{arith}
 use lib.ListN.{length, List·getD-append}
-use Rattle.lists.specs.Lists.{at, tab, put, anyOf}
+use Rattle.lists.specs.Lists.{at, tab, put}
 use Rattle.lists.proofs.TabLaws.{order}
 use Rattle.lists.proofs.PutLaws.{length-put, put-below, put-above, put-at, skip}
-use Rattle.lists.proofs.AnyLaws.{any-first, any-rest, any-two}
+use Rattle.lists.proofs.AnyLaws.{none-at}
 use Rattle.answer.specs.declared.Outcome.{Outcome}
 use Rattle.answer.specs.declared.Outcome.the-variants.{Done}
-use Rattle.answer.specs.Refusals.{differs}
 use Rattle.answer.proofs.RefusalLaws.{accepted, same}
 use Rattle.bits.specs.Fields.{_wide_, bitsOf, widths, packed, pack, withField}
 use Rattle.bits.proofs.PackLaws.{packed-length, packed-at, packed-same, bits-zero, packed-zero, packed-past}
@@ -27,18 +26,13 @@ use Rattle.archive.proofs.LayoutLaws.{sizes-length, length-archive, arc
 
 -- ---- the answer
 
--- the tests of the lengths, as code makes them
-pub lengths-tested : (z : Sizes) (id archive : List ℕ) {len : ℕ} {t : Bool} → len ≡ archiveLength z
-    → (differs (length id) 8 || differs (length archive) len) ≡ t → anyOf (differs (length id) 8 ∷ differs (length archive) (archiveLength z) ∷ []) ≡ t
-lengths-tested z id archive e h = sym (any-two _ _) ∙ (rw e at h)
-
 module _ (z : Sizes) (id archive : List ℕ) {o : Outcome} (answer : o ≡ openAnswer z id archive) where
   pub open-tells : o ≡ Done → (sizesOutside z ≡ false) × (length id ≡ 8) × (length archive ≡ archiveLength z)
   unfolding openAnswer
   open-tells e =
       let a = accepted _ _ _ (sym answer ∙ e) in
       let t = accepted _ _ _ (a .1) .0 in
-      (a .0, same _ _ (any-first _ _ t), same _ _ (any-first _ _ (any-rest _ _ t)))
+      (a .0, same _ _ (none-at _ 0 t), same _ _ (none-at _ 1 t))
 
 -- ---- the new archive
 

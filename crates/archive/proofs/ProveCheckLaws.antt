@@ -1,14 +1,13 @@
--- Prove's answer as its check finds it, and what it tells. Assumes nothing.
+-- What an answer of Prove tells, and the response that it sends. Assumes nothing.
 use Prim.Native.Nat.{ℕ, _+_, _-_, _<_}
-use mathlib.Core.Path.{_≡_, sym, _∙_}
-use mathlib.Core.Bool.{Bool, false, _||_}
-use mathlib.Core.List.{List, [], _∷_}
+use mathlib.Core.Path.{_≡_, _∙_}
+use mathlib.Core.Bool.{false}
+use mathlib.Core.List.{List}
 use native.Mathlib.Omega.{arith}
 use lib.ListN.{length}
-use Rattle.lists.specs.Lists.{at, anyOf}
-use Rattle.lists.proofs.AnyLaws.{any-first, any-rest, any-four}
+use Rattle.lists.specs.Lists.{at}
+use Rattle.lists.proofs.AnyLaws.{none-at}
 use Rattle.answer.specs.declared.Outcome.the-variants.{Done}
-use Rattle.answer.specs.Refusals.{differs}
 use Rattle.answer.proofs.RefusalLaws.{accepted, same}
 use Rattle.sizes.specs.declared.Sizes.{Sizes}
 use Rattle.sizes.specs.Lengths.{responseLength, blockLength, recordLength}
@@ -19,14 +18,6 @@ use Rattle.archive.specs.Prove.{proveFor, proveAnswer, responseFor, name
 use Rattle.archive.proofs.GoodArchiveLaws.{good-sizes}
 
 module _ (s maskKey elements seed message out : List ℕ) where
-  -- the test of lengths, over the sizes that were read
-  pub lengths-read : {z : Sizes} {t : Bool} → z ≡ sizesOf s
-      → (((differs (length maskKey) 32 || differs (length elements) (z .n - 1)) || differs (length seed) 11) || differs (length out) (z .n + 14)) ≡ t
-      → anyOf (differs (length maskKey) 32 ∷ differs (length elements) (sizesOf s .n - 1) ∷ differs (length seed) 11 ∷ differs (length out) (responseLength (sizesOf s .n)) ∷ []) ≡ t
-  lengths-read e h =
-      sym (any-four (differs (length maskKey) 32) (differs (length elements) (sizesOf s .n - 1)) (differs (length seed) 11) (differs (length out) (sizesOf s .n + 14)))
-      ∙ (rw e at h)
-
   pub record Provable : Type 0 where
     pub good : badArchive s ≡ false
     pub formed : malformedChallenge message ≡ false
@@ -42,19 +33,16 @@ module _ (s maskKey elements seed message out : List ℕ) where
       let one = accepted _ _ _ e in
       let two = accepted _ _ _ (one .1) in
       let three = accepted _ _ _ (two .1) in
-      let t = any-rest _ _ (three .0) in
-      let u = any-rest _ _ t in
       record {
         good = one .0;
         formed = two .0;
         there = accepted _ _ _ (three .1) .0;
-        key-length = same _ _ (any-first _ _ (three .0));
-        elements-length = same _ _ (any-first _ _ t);
-        seed-length = same _ _ (any-first _ _ u);
-        response-length = same _ _ (any-first _ _ (any-rest _ _ u));
+        key-length = same _ _ (none-at _ 0 (three .0));
+        elements-length = same _ _ (none-at _ 1 (three .0));
+        seed-length = same _ _ (none-at _ 2 (three .0));
+        response-length = same _ _ (none-at _ 3 (three .0));
       }
 
--- the part of an archive that is its id
 -- the response for the combined records of the named places
 pub proved-is : (s maskKey elements seed message combined : List ℕ) {sizes : Sizes} {node : ℕ} {key id w : List ℕ} → badArchive s ≡ false → sizes ≡ sizesOf s
     → node ≡ challengeOf message .node → key ≡ maskKey → id ≡ idOf s

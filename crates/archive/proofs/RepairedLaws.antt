@@ -8,7 +8,7 @@ use native.Mathlib.Omega.{arith}
 use lib.ListN.{length}
 use borrow.Author.Tests.{leb-false}
 use Rattle.lists.specs.Lists.{at, over, grid}
-use Rattle.lists.proofs.AnyLaws.{any-first}
+use Rattle.lists.proofs.AnyLaws.{none-at}
 use Rattle.lists.proofs.PutLaws.{length-put, grid-at}
 use Rattle.answer.proofs.RefusalLaws.{accepted, after-done}
 use Rattle.sizes.specs.declared.Sizes.{Sizes}
@@ -43,4 +43,4 @@ repaired-rows s target helpers q gammas thetas scratch done k i h hi =
     let a = accepted _ _ _ done in
     let there = accepted _ _ _ (accepted _ _ _ (accepted _ _ _ (a .1) .1) .1) .0 in
     ap (λ (t : List ℕ). byteIn z t (placeNumber z target k) (z .n + i)) (after-done _ _ done)
-    ∙ stored-byte z _ target k (z .n + i) _ s (good-length s (a .0)) (leb-false _ _ (any-first _ _ there)) h (omega arith)
+    ∙ stored-byte z _ target k (z .n + i) _ s (good-length s (a .0)) (leb-false _ _ (none-at _ 0 there)) h (omega arith)

@@ -5,7 +5,7 @@ ghost use Prim.Native.Nat.{_+_, _*_, _<_, _≤_};
 ghost use lib.ListN.{length};
 ghost use lib.Dec.{leb};
 ghost use Rattle.lists.specs.Lists.{pick, anyBelow};
-ghost use Rattle.sizes.specs.Lengths.{marksStart};
+ghost use Rattle.sizes.specs.Lengths.{marksStart, headerLength, markCount};
 ghost use Rattle.archive.specs.Layout.{sizesOf, idOf, markAt, badArchive};
 use sizes::Sizes;
 use sizes::archive_length;
@@ -35,7 +35,7 @@ pub fn id_in(s: &[u8]) -> [u8; 8]
 
 // Whether place number k is marked as filled.
 pub fn marked(s: &[u8], k: usize) -> bool
-    requires { ⌜ (k < 48) × (18 ≤ length (now s)) ⌝ }
+    requires { ⌜ (k < markCount) × (headerLength ≤ length (now s)) ⌝ }
     ensures { λ r. ⌜ r ≡ markAt (now (s .entry)) k ⌝ }
 {
     bits::read_field(s, sizes::FIRST_MARK + k, 1) == 1
@@ -44,7 +44,7 @@ pub fn marked(s: &[u8], k: usize) -> bool
 // Whether a mark is set that belongs to none of the first `count` places.
 fn any_spare_mark(s: &[u8], count: usize) -> bool
     requires { ⌜ 18 ≤ length (now s) ⌝ }
-    ensures { λ r. ⌜ r ≡ anyBelow 48 (λ k. pick (leb count k) (markAt (now (s .entry)) k) false) ⌝ }
+    ensures { λ r. ⌜ r ≡ anyBelow markCount (λ k. pick (leb count k) (markAt (now (s .entry)) k) false) ⌝ }
 {
     for k in 0..sizes::MARK_COUNT {
         if (count <= k) & marked(s, k) {

@@ -3,12 +3,13 @@ ghost use mathlib.Core.Path.{_≡_};
 ghost use Prim.Native.Nat.{_+_, _<_, _≤_};
 ghost use lib.ListN.{length};
 ghost use Rattle.lists.specs.Lists.{at, over, bit};
+ghost use Rattle.sizes.specs.Lengths.{headerLength, markCount, marksLength};
 ghost use Rattle.bits.specs.Fields.{packed};
 ghost use Rattle.archive.specs.Layout.{markAt, withMarks};
 
 // The mark of place number i, 0 or 1, where those of the `count` places from k on are v.
 fn mark_with(s: &[u8], k: usize, count: usize, v: bool, i: usize) -> usize
-    requires { ⌜ (k + count ≤ 48) × (i < 48) × (18 ≤ length (now s)) ⌝ }
+    requires { ⌜ (k + count ≤ markCount) × (i < markCount) × (headerLength ≤ length (now s)) ⌝ }
     ensures { λ r. ⌜ r ≡ bit (over k count (λ j. v) (markAt (now (s .entry))) i) ⌝ }
 {
     if i < k {
@@ -22,7 +23,7 @@ fn mark_with(s: &[u8], k: usize, count: usize, v: bool, i: usize) -> usize
 
 // Byte j of the marks, where those of the `count` places from k on are v.
 fn mark_byte(s: &[u8], k: usize, count: usize, v: bool, j: usize) -> u8
-    requires { ⌜ (k + count ≤ 48) × (j < 6) × (18 ≤ length (now s)) ⌝ }
+    requires { ⌜ (k + count ≤ markCount) × (j < marksLength) × (headerLength ≤ length (now s)) ⌝ }
     ensures { λ r. ⌜ r ≡ at (packed 6 (over k count (λ i. v) (markAt (now (s .entry))))) j ⌝ }
 {
     let mut byte = 0;
@@ -34,7 +35,7 @@ fn mark_byte(s: &[u8], k: usize, count: usize, v: bool, j: usize) -> u8
 
 // Makes the marks of the `count` places from number k on v.
 pub fn set_marks(s: &mut [u8], k: usize, count: usize, v: bool)
-    requires { ⌜ (k + count ≤ 48) × (18 ≤ length (now s)) ⌝ }
+    requires { ⌜ (k + count ≤ markCount) × (headerLength ≤ length (now s)) ⌝ }
     ensures { λ _. ⌜ now (s .exit) ≡ withMarks (over k count (λ i. v) (markAt (now (s .entry)))) (now (s .entry)) ⌝ }
 {
     for j in 0..6 {

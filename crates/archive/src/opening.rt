@@ -3,7 +3,7 @@ ghost use mathlib.Core.Path.{_≡_};
 ghost use mathlib.Core.Bool.{false};
 ghost use lib.ListN.{length};
 ghost use Rattle.sizes.specs.Sizes.{sizesOutside};
-ghost use Rattle.sizes.specs.Lengths.{archiveLength};
+ghost use Rattle.sizes.specs.Lengths.{archiveLength, idLength};
 ghost use Rattle.archive.specs.Open.{opened, openAnswer, openOut};
 use answer::Outcome;
 use answer::Refusal;
@@ -25,7 +25,7 @@ fn open_check(z: Sizes, id: &[u8], archive: &[u8]) -> Outcome
 
 // The header of these sizes and this id, no marks, and zero records.
 fn write_new(z: Sizes, id: &[u8], archive: &mut [u8])
-    requires { ⌜ (sizesOutside z ≡ false) × (length (now id) ≡ 8) × (length (now archive) ≡ archiveLength z) ⌝ }
+    requires { ⌜ (sizesOutside z ≡ false) × (length (now id) ≡ idLength) × (length (now archive) ≡ archiveLength z) ⌝ }
     ensures { λ _. ⌜ now (archive .exit) ≡ opened z (now (id .entry)) ⌝ }
 {
     lists::clear(archive);

@@ -12,7 +12,7 @@ use borrow.Author.Tests.{lt-ltb, le-ltb}
 use Rattle.lists.specs.Lists.{pick, at, put}
 use Rattle.lists.proofs.TabLaws.{order}
 use Rattle.lists.proofs.PutLaws.{put-front}
-use Rattle.lists.proofs.AnyLaws.{any-first, any-rest}
+use Rattle.lists.proofs.AnyLaws.{none-at}
 use Rattle.answer.specs.declared.Refusal.{Refusal}
 use Rattle.answer.specs.declared.Outcome.{Outcome}
 use Rattle.answer.specs.declared.Outcome.the-variants.{Done, Refused as RefusedOutcome}
@@ -132,15 +132,13 @@ module _ (key id : List ℕ) (z : Sizes) (rows message response : List ℕ) wher
       let one = accepted _ _ _ e in
       let two = accepted _ _ _ (one .1) in
       let three = accepted _ _ _ (two .1) in
-      let t = any-rest _ _ (three .0) in
-      let u = any-rest _ _ t in
       record {
         sized = one .0;
         formed = two .0;
-        key-length = same _ _ (any-first _ _ (three .0));
-        id-length = same _ _ (any-first _ _ t);
-        rows-length = same _ _ (any-first _ _ u);
-        response-length = same _ _ (any-first _ _ (any-rest _ _ u));
+        key-length = same _ _ (none-at _ 0 (three .0));
+        id-length = same _ _ (none-at _ 1 (three .0));
+        rows-length = same _ _ (none-at _ 2 (three .0));
+        response-length = same _ _ (none-at _ 3 (three .0));
         there = accepted _ _ _ (three .1) .0;
       }
 

@@ -5,15 +5,16 @@ ghost use Prim.Native.Nat.{_*_};
 ghost use lib.ListN.{length};
 ghost use Rattle.lists.specs.Lists.{at};
 ghost use Rattle.answer.specs.Refusals.{Passed};
-ghost use Rattle.field.specs.PrivateTables.{PowerTable, LogTable};
+ghost use Rattle.field.specs.PrivateTables.{FieldTables};
 ghost use Rattle.sizes.specs.Sizes.{sizesOutside};
 ghost use Rattle.linear.specs.PrivateRows.{kept};
-ghost use Rattle.sizes.specs.Lengths.{responseLength};
+ghost use Rattle.sizes.specs.Lengths.{responseLength, vectorMost};
 ghost use Rattle.message.specs.Challenge.{challengeOf, malformedChallenge, notThere};
 ghost use Rattle.audit.specs.Verdict.{judgementNumber, verdictFor, namedRow, accepts, verdictOf};
 use crate::Judgement;
 use answer::Outcome;
 use answer::Refusal;
+use field::Tables;
 use linear::Row;
 use message::add_named;
 use message::malformed;
@@ -72,9 +73,8 @@ fn verdict_check(
 }
 
 // The rows of the named places, combined by the challenge.
-fn named_row(powers: &[u8; 510], logs: &[u8; 256], z: Sizes, rows: &[u8], message: &[u8]) -> Row
-    requires { ⌜ PowerTable (now powers)
-        × LogTable (now logs)
+fn named_row(tables: &Tables, z: Sizes, rows: &[u8], message: &[u8]) -> Row
+    requires { ⌜ FieldTables (now tables)
         × (sizesOutside z ≡ false)
         × (malformedChallenge (now message) ≡ false)
         × (notThere z (challengeOf (now message)) ≡ false)
@@ -82,36 +82,27 @@ fn named_row(powers: &[u8; 510], logs: &[u8; 256], z: Sizes, rows: &[u8], messag
     ensures { λ r. ⌜ r ≡ kept (z .m) (namedRow z (now (rows .entry)) (challengeOf (now (message .entry)))) ⌝ }
 {
     let mut bytes = [0u8; 16];
-    add_named(powers, logs, message, rows, 0, &mut bytes, z.m);
+    add_named(tables, message, rows, 0, &mut bytes, z.m);
     Row { bytes }
 }
 
 // Whether the data elements and the row, times the elements of a vector, give tag plus mask sum.
-fn agrees(
-    powers: &[u8; 510],
-    logs: &[u8; 256],
-    z: Sizes,
-    row: Row,
-    response: &[u8],
-    vector: &[u8],
-) -> bool
-    requires { ⌜ PowerTable (now powers)
-        × LogTable (now logs)
+fn agrees(tables: &Tables, z: Sizes, row: Row, response: &[u8], vector: &[u8]) -> bool
+    requires { ⌜ FieldTables (now tables)
         × (sizesOutside z ≡ false)
         × (length (now response) ≡ responseLength (z .n))
-        × (length (now vector) ≡ 1088) ⌝ }
+        × (length (now vector) ≡ vectorMost) ⌝ }
     ensures { λ r. ⌜ r ≡ accepts z (at (now (vector .entry))) (at (row .bytes)) (now (response .entry)) ⌝ }
 {
     let n = z.n;
-    let masked = vector::product_of(powers, logs, &response[1..n - 1], vector, n - 2);
+    let masked = vector::product_of(tables, &response[1..n - 1], vector, n - 2);
     let clear = vector::product_of(
-        powers,
-        logs,
+        tables,
         &response[n + sizes::CLEAR_PAST_N..n + sizes::TAG_PAST_N],
         &vector[n - 2..n],
         2,
     );
-    let tail = linear::dot(powers, logs, row, &vector[n..n + z.m], z.m);
+    let tail = linear::dot(tables, row, &vector[n..n + z.m], z.m);
     masked ^ clear ^ tail == response[n + sizes::TAG_PAST_N] ^ response[n + sizes::SUM_PAST_N]
 }
 
@@ -124,7 +115,8 @@ fn judged(
     message: &[u8],
     response: &[u8],
 ) -> Judgement
-    requires { ⌜ Passed (verdictFor z (now «tag_key») (now id) (now rows) (challengeOf (now message)) (malformedChallenge (now message)) (now response)) ⌝ }
+    requires { let message = now message in
+        ⌜ Passed (verdictFor z (now «tag_key») (now id) (now rows) (challengeOf message) (malformedChallenge message) (now response)) ⌝ }
     ensures { λ r.
         let tagKey = now («tag_key» .entry) in
         let id = now (id .entry) in
@@ -133,13 +125,16 @@ fn judged(
         let response = now (response .entry) in
         ⌜ r ≡ verdictOf tagKey id z rows message response ⌝ }
 {
-    let pair = field::tables();
-    let powers = pair.powers;
-    let logs = pair.logs;
-    let row = named_row(&powers, &logs, z, rows, message);
-    let mut vector = [0u8; 1088];
-    tag::key_vector_into(tag_key, id, &mut vector, (z.n + z.m) / 64 + 1);
-    if agrees(&powers, &logs, z, row, response, &vector) {
+    let tables = field::tables();
+    let row = named_row(&tables, z, rows, message);
+    let mut vector = [0u8; sizes::VECTOR_MOST];
+    tag::key_vector_into(
+        tag_key,
+        id,
+        &mut vector,
+        (z.n + z.m) / sizes::STREAM_BLOCK_LENGTH + 1,
+    );
+    if agrees(&tables, z, row, response, &vector) {
         Judgement::Accepted
     } else {
         Judgement::Rejected

@@ -4,14 +4,13 @@ use mathlib.Core.Path.{_≡_, refl, sym, ap, ap₂, _∙_}
 use mathlib.Core.Bool.{true, false}
 use mathlib.Core.List.{List, [], _∷_}
 use mathlib.Core.Logic.{⊎-elim}
-use native.Mathlib.Nat.{mul-le-mul}
 use native.Mathlib.Omega.{arith}
 use lib.Dec.{leb}
 use lib.ListN.{length, set}
 use borrow.Author.Tests.{lt-ltb, le-ltb, leb-false}
 use Rattle.lists.specs.Lists.{at, put, grid, over, anyOf}
 use Rattle.lists.proofs.TabLaws.{order}
-use Rattle.lists.proofs.AnyLaws.{any-first, any-rest}
+use Rattle.lists.proofs.AnyLaws.{none-at}
 use Rattle.lists.proofs.PutLaws.{length-put, put-below, put-above, put-at, put-more, put-put, put-same, is-put}
 use Rattle.answer.specs.Refusals.{Passed}
 use Rattle.answer.proofs.RefusalLaws.{accepted, same}
@@ -41,11 +40,8 @@ use Rattle.archive.proofs.BlockLaws.{source-file, coded-row}
 -- ---- the answer
 
 module _ (z : Sizes) (R : Ranged z) where
-  pub file-low : fileLength z ≤ 16384
-  file-low = mul-le-mul {n₂ = 16} {m₂ = 1024} (R .m-high) (omega (arith, R .n-high))
-
   pub place-in : (node place : ℕ) → anyOf (leb (z .nodes) node ∷ leb (z .places) place ∷ []) ≡ false → placeNumber z node place < placeCount z
-  place-in node place e = number-low z R node place (leb-false _ _ (any-first _ _ e)) (leb-false _ _ (any-first _ _ (any-rest _ _ e)))
+  place-in node place e = number-low z R node place (leb-false _ _ (none-at _ 0 e)) (leb-false _ _ (none-at _ 1 e))
 
 -- what is known where nothing is refused
 pub record Encodable (z : Sizes) (s : List ℕ) (node place : ℕ) (file padding key row : List ℕ) : Type 0 where
@@ -64,18 +60,16 @@ module _ (s : List ℕ) (node place : ℕ) (file padding key row : List ℕ) whe
       let z : Sizes = sizesOf s in
       let a = accepted _ _ _ ok in
       let l = accepted _ _ _ (a .1) in
-      let l2 = any-rest _ _ (l .0) in
-      let l3 = any-rest _ _ l2 in
       let R : Ranged z = good-sizes s (a .0) in
       let low : placeNumber z node place < placeCount z = place-in z R node place (accepted _ _ _ (l .1) .0) in
       record {
         sizes = R;
         number = omega (arith, count-low z R);
         fits = omega (arith, record-fits z _ low, good-length s (a .0));
-        file-length = same _ _ (any-first _ _ (l .0));
-        padding-length = same _ _ (any-first _ _ l2);
-        key-length = same _ _ (any-first _ _ l3);
-        row-length = same _ _ (any-first _ _ (any-rest _ _ l3));
+        file-length = same _ _ (none-at _ 0 (l .0));
+        padding-length = same _ _ (none-at _ 1 (l .0));
+        key-length = same _ _ (none-at _ 2 (l .0));
+        row-length = same _ _ (none-at _ 3 (l .0));
       }
 
   -- for the sizes as they were read

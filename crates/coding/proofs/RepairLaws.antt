@@ -1,21 +1,18 @@
 -- What Repair's answer tells, and what it writes: the repair blocks, and the target's marks and records. Assumes nothing.
 use Prim.Native.Nat.{ℕ, _+_, _*_, _/_, _%_, _<_, _≤_}
 use mathlib.Core.Path.{_≡_, sym, ap, ap₂, _∙_}
-use mathlib.Core.Bool.{Bool, true, false, not, _||_}
-use mathlib.Core.List.{List, [], _∷_}
+use mathlib.Core.Bool.{Bool, true, false, _||_}
+use mathlib.Core.List.{List}
 use native.Mathlib.Nat.{mul-le-mul, mul-le-mul-right, div-add-mod', div-lt-iff-lt-mul}
 use native.Mathlib.Omega.{arith}
 use lib.Dec.{leb}
 use lib.ListN.{length}
 use borrow.Author.Tests.{leb-false}
-use Rattle.lists.specs.Lists.{at, grid, over, anyOf, anyBelow}
-use Rattle.lists.proofs.AnyLaws.{any-first, any-rest, any-below, any-two, any-three, or-false}
+use Rattle.lists.specs.Lists.{at, grid, over, anyBelow}
+use Rattle.lists.proofs.AnyLaws.{none-at, any-below, or-false}
 use Rattle.lists.proofs.PutLaws.{grid-same, grid-all, flat-at}
-use Rattle.answer.specs.declared.Outcome.{Outcome}
-use Rattle.answer.specs.declared.Outcome.the-variants.{Done, Refused}
-use Rattle.answer.specs.declared.Refusal.the-variants.{Size, Length, NoSuchPlace, PlaceEmpty, PlaceFilled}
-use Rattle.answer.specs.Refusals.{Passed, differs, outside}
-use Rattle.answer.proofs.RefusalLaws.{refused, passed, accepted, same, inside}
+use Rattle.answer.specs.Refusals.{Passed, outside}
+use Rattle.answer.proofs.RefusalLaws.{accepted, same, inside}
 use Rattle.field.specs.Field.{times}
 use Rattle.field.proofs.SumLaws.{sum-same, sum-rows}
 use Rattle.sizes.specs.declared.Sizes.{Sizes}
@@ -64,63 +61,6 @@ counts {p-out} {q-out} p q a b e =
     let w = or-false p-out q-out e in
     (inside 1 5 p (sym a ∙ w .0) .1, inside 1 8 q (sym b ∙ w .1) .1)
 
--- the refusals one by one, as the code finds their tests
-module _ (z : Sizes) (filled : ℕ → ℕ → Bool) (target : ℕ) (helpers : List ℕ) (q : ℕ) (gammas thetas : List ℕ) (scratch : ℕ) where
-  abbrev answer : Outcome
-  answer = answerFor z filled (repair target helpers q gammas thetas scratch)
-
-  abbrev wrongLength : ℕ → Bool
-  wrongLength len =
-      (differs (length gammas) (length helpers * q * z .places) || differs (length thetas) (length helpers * q * z .places))
-      || differs scratch (length helpers * q * len)
-
-  module _ {p-out q-out : Bool} (ps : p-out ≡ outside 1 5 (length helpers)) (qs : q-out ≡ outside 1 8 q) where
-    sized : {t : Bool} → (p-out || q-out) ≡ t → anyOf (outside 1 5 (length helpers) ∷ outside 1 8 q ∷ []) ≡ t
-    sized e = rw (← ps, ← qs) (sym (any-two p-out q-out) ∙ e)
-
-    pub refused-size : (p-out || q-out) ≡ true → Refused Size ≡ answer
-    unfolding answerFor
-    refused-size e = sym (refused _ _ (sized e))
-
-    module _ (size : (p-out || q-out) ≡ false) {len : ℕ} (lens : len ≡ recordLength z) where
-      measured : {t : Bool} → wrongLength len ≡ t
-          → anyOf (differs (length gammas) (length helpers * q * z .places) ∷ differs (length thetas) (length helpers * q * z .places)
-          ∷ differs scratch (length helpers * q * recordLength z) ∷ []) ≡ t
-      measured e = rw (← lens) (sym (any-three _ _ _) ∙ e)
-
-      pub refused-length : wrongLength len ≡ true → Refused Length ≡ answer
-      unfolding answerFor
-      refused-length e = sym (passed _ _ (sized size) ∙ refused _ _ (measured e))
-
-      module _ (lengths : wrongLength len ≡ false) {missing : Bool} (ms : missing ≡ anyBelow (length helpers) (λ i. leb (z .nodes) (at helpers i))) where
-        placed : {t : Bool} → (leb (z .nodes) target || missing) ≡ t
-            → anyOf (leb (z .nodes) target ∷ anyBelow (length helpers) (λ i. leb (z .nodes) (at helpers i)) ∷ []) ≡ t
-        placed e = rw (← ms) (sym (any-two (leb (z .nodes) target) missing) ∙ e)
-
-        pub refused-place : (leb (z .nodes) target || missing) ≡ true → Refused NoSuchPlace ≡ answer
-        unfolding answerFor
-        refused-place e = sym (passed _ _ (sized size) ∙ passed _ _ (measured lengths) ∙ refused _ _ (placed e))
-
-        module _ (places : (leb (z .nodes) target || missing) ≡ false) {full : Bool} (fs : full ≡ anyBelow (z .places) (λ k. filled target k)) where
-          pub refused-filled : full ≡ true → Refused PlaceFilled ≡ answer
-          unfolding answerFor
-          refused-filled e =
-              sym (passed _ _ (sized size) ∙ passed _ _ (measured lengths) ∙ passed _ _ (placed places) ∙ refused _ _ (sym fs ∙ e))
-
-          module _ (free : full ≡ false) {empty : Bool}
-              (es : empty ≡ anyBelow (length helpers) (λ i. anyBelow (z .places) (λ l. not (filled (at helpers i) l)))) where
-            pub refused-empty : empty ≡ true → Refused PlaceEmpty ≡ answer
-            unfolding answerFor
-            refused-empty e =
-                sym (passed _ _ (sized size) ∙ passed _ _ (measured lengths) ∙ passed _ _ (placed places) ∙ passed _ _ (sym fs ∙ free)
-                ∙ refused _ _ (sym es ∙ e))
-
-            pub not-refused : empty ≡ false → Done ≡ answer
-            unfolding answerFor
-            not-refused e =
-                sym (passed _ _ (sized size) ∙ passed _ _ (measured lengths) ∙ passed _ _ (placed places) ∙ passed _ _ (sym fs ∙ free)
-                ∙ passed _ _ (sym es ∙ e))
-
 -- what is known where nothing is refused
 pub record Repairable (z : Sizes) (s : List ℕ) (target : ℕ) (helpers : List ℕ) (q : ℕ) (gammas thetas : List ℕ) (scratch : ℕ) : Type 0 where
   pub good : badArchive s ≡ false
@@ -141,22 +81,21 @@ module _ (s : List ℕ) (target : ℕ) (helpers : List ℕ) (q : ℕ) (gammas th
   accepted-repair ok =
       let a = accepted _ _ _ ok in
       let n = accepted _ _ _ (a .1) in
-      let Q = inside 1 8 q (any-first _ _ (any-rest _ _ (n .0))) in
+      let Q = inside 1 8 q (none-at _ 1 (n .0)) in
       let l = accepted _ _ _ (n .1) in
-      let l2 = any-rest _ _ (l .0) in
       let p = accepted _ _ _ (l .1) .0 in
       record {
         good = a .0;
         sizes = good-sizes s (a .0);
         long = good-length s (a .0);
-        helpers-high = inside 1 5 (length helpers) (any-first _ _ (n .0)) .1;
+        helpers-high = inside 1 5 (length helpers) (none-at _ 0 (n .0)) .1;
         q-low = Q .0;
         q-high = Q .1;
-        gammas-length = same _ _ (any-first _ _ (l .0));
-        thetas-length = same _ _ (any-first _ _ l2);
-        scratch-length = same _ _ (any-first _ _ (any-rest _ _ l2));
-        target-low = leb-false _ _ (any-first _ _ p);
-        present = any-first _ _ (any-rest _ _ p);
+        gammas-length = same _ _ (none-at _ 0 (l .0));
+        thetas-length = same _ _ (none-at _ 1 (l .0));
+        scratch-length = same _ _ (none-at _ 2 (l .0));
+        target-low = leb-false _ _ (none-at _ 0 p);
+        present = none-at _ 1 p;
       }
 
   -- for the sizes as they were read

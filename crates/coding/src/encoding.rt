@@ -5,7 +5,7 @@ ghost use Prim.Native.Nat.{_+_, _≤_};
 ghost use lib.ListN.{length};
 ghost use Rattle.lists.specs.Lists.{at, put};
 ghost use Rattle.answer.specs.Refusals.{Passed};
-ghost use Rattle.field.specs.PrivateTables.{PowerTable, LogTable};
+ghost use Rattle.field.specs.PrivateTables.{FieldTables};
 ghost use Rattle.sizes.specs.Sizes.{sizesOutside};
 ghost use Rattle.sizes.specs.Lengths.{blockLength, fileLength, paddingLength};
 ghost use Rattle.archive.specs.Layout.{sizesOf, idOf};
@@ -19,6 +19,7 @@ use archive::id_in;
 use archive::marked;
 use archive::set_marks;
 use archive::sizes_in;
+use field::Tables;
 use linear::Row;
 use sizes::Sizes;
 use sizes::record_start;
@@ -63,8 +64,7 @@ fn encode_check(
 
 // The source blocks combined by a row, into the block that starts at `start`.
 fn write_block(
-    powers: &[u8; 510],
-    logs: &[u8; 256],
+    tables: &Tables,
     z: Sizes,
     file: &[u8],
     padding: &[u8],
@@ -72,8 +72,7 @@ fn write_block(
     archive: &mut [u8],
     start: usize,
 )
-    requires { ⌜ PowerTable (now powers)
-        × LogTable (now logs)
+    requires { ⌜ FieldTables (now tables)
         × (sizesOutside z ≡ false)
         × (length (now file) ≡ fileLength z)
         × (length (now padding) ≡ paddingLength z)
@@ -87,22 +86,9 @@ fn write_block(
     let m = z.m;
     let elements = row.bytes;
     lists::zero(archive, start, n);
+    vector::combine(tables, m, &elements, 0, 1, file, 0, archive, start, n - 2);
     vector::combine(
-        powers,
-        logs,
-        m,
-        &elements,
-        0,
-        1,
-        file,
-        0,
-        archive,
-        start,
-        n - 2,
-    );
-    vector::combine(
-        powers,
-        logs,
+        tables,
         m,
         &elements,
         0,
@@ -128,16 +114,14 @@ fn fill_place(
 )
     requires { ⌜ Passed (archiveAnswer (now archive) (Calls.encode node place (now file) (now padding) (now «tag_key») (now row))) ⌝ }
     ensures { λ _.
+        let s = now (archive .entry) in
         let file = now (file .entry) in
         let padding = now (padding .entry) in
         let tagKey = now («tag_key» .entry) in
         let row = now (row .entry) in
-        ⌜ now (archive .exit)
-        ≡ effectFor (sizesOf (now (archive .entry))) (idOf (now (archive .entry))) (now (archive .entry)) (Calls.encode node place file padding tagKey row) ⌝ }
+        ⌜ now (archive .exit) ≡ effectFor (sizesOf s) (idOf s) s (Calls.encode node place file padding tagKey row) ⌝ }
 {
-    let pair = field::tables();
-    let powers = pair.powers;
-    let logs = pair.logs;
+    let tables = field::tables();
     let z = sizes_in(archive);
     let k = node * z.places + place;
     let start = record_start(z, k);
@@ -145,8 +129,8 @@ fn fill_place(
     let id = id_in(archive);
     let vector = tag::key_stream(tag_key, &id);
     set_marks(archive, k, 1, true);
-    write_block(&powers, &logs, z, file, padding, kept, archive, start);
-    let tag = tag::product_drawn(&powers, &logs, archive, start, z.n + z.m, vector);
+    write_block(&tables, z, file, padding, kept, archive, start);
+    let tag = tag::product_drawn(&tables, archive, start, z.n + z.m, vector);
     archive[start + z.n + z.m] = tag;
 }
 

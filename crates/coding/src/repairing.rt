@@ -1,15 +1,15 @@
 // Repair: a node is filled from the records of its helpers.
 ghost use mathlib.Core.Path.{_≡_};
 ghost use mathlib.Core.Bool.{false, not};
-ghost use Prim.Native.Nat.{_+_, _*_, _<_, _≤_};
+ghost use Prim.Native.Nat.{ℕ, _+_, _*_, _<_, _≤_};
 ghost use lib.ListN.{length};
 ghost use lib.Dec.{leb};
 ghost use Rattle.lists.specs.Lists.{pick, at, anyBelow, grid};
 ghost use Rattle.answer.specs.Refusals.{Passed};
 ghost use Rattle.sizes.specs.Sizes.{sizesOutside};
 ghost use Rattle.vector.specs.Vectors.{mixed};
-ghost use Rattle.field.specs.PrivateTables.{PowerTable, LogTable};
-ghost use Rattle.sizes.specs.Lengths.{recordLength, archiveLength, recordStart};
+ghost use Rattle.field.specs.PrivateTables.{FieldTables};
+ghost use Rattle.sizes.specs.Lengths.{recordLength, archiveLength, recordStart, headerLength};
 ghost use Rattle.archive.specs.Layout.{sizesOf, idOf, filledIn, badArchive};
 ghost use Rattle.archive.specs.Calls as Calls;
 ghost use Rattle.archive.specs.Calls.{archiveAnswer, effectFor, archiveAfter, scratchAfter};
@@ -20,6 +20,7 @@ use archive::bad_archive;
 use archive::marked;
 use archive::set_marks;
 use archive::sizes_in;
+use field::Tables;
 use sizes::Sizes;
 use sizes::record_length;
 use sizes::record_start;
@@ -38,7 +39,7 @@ fn any_missing(helpers: &[u8], nodes: usize) -> bool
 
 // Whether a place of a node is filled; where `filled` is false, whether one is empty.
 fn any_place(archive: &[u8], z: Sizes, node: usize, filled: bool) -> bool
-    requires { ⌜ (sizesOutside z ≡ false) × (node < z .nodes) × (18 ≤ length (now archive)) ⌝ }
+    requires { ⌜ (sizesOutside z ≡ false) × (node < z .nodes) × (headerLength ≤ length (now archive)) ⌝ }
     ensures { λ r.
         let archive = now (archive .entry) in
         ⌜ r ≡ anyBelow (z .places) (λ k. pick filled (filledIn z archive node k) (not (filledIn z archive node k))) ⌝ }
@@ -55,7 +56,7 @@ fn any_place(archive: &[u8], z: Sizes, node: usize, filled: bool) -> bool
 // Whether a place of a helper is empty.
 fn any_helper_empty(archive: &[u8], z: Sizes, helpers: &[u8]) -> bool
     requires { ⌜ (sizesOutside z ≡ false)
-        × (18 ≤ length (now archive))
+        × (headerLength ≤ length (now archive))
         × (anyBelow (length (now helpers)) (λ i. leb (z .nodes) (at (now helpers) i)) ≡ false) ⌝ }
     ensures { λ r.
         let helpers = now (helpers .entry) in
@@ -117,16 +118,14 @@ fn repair_check(
 
 // The repair blocks with tags, helper by helper.
 fn repair_blocks(
-    powers: &[u8; 510],
-    logs: &[u8; 256],
+    tables: &Tables,
     archive: &[u8],
     helpers: &[u8],
     q: usize,
     gammas: &[u8],
     scratch: &mut [u8],
 )
-    requires { ⌜ PowerTable (now powers)
-        × LogTable (now logs)
+    requires { ⌜ FieldTables (now tables)
         × (badArchive (now archive) ≡ false)
         × (1 ≤ q)
         × (q ≤ 8)
@@ -147,8 +146,7 @@ fn repair_blocks(
         let first = record_start(z, lists::widen(helpers[t / q]) * places);
         lists::zero(scratch, t * len, len);
         vector::combine(
-            powers,
-            logs,
+            tables,
             places,
             gammas,
             t * places,
@@ -164,8 +162,7 @@ fn repair_blocks(
 
 // The target's records: all repair blocks combined by the thetas of each place.
 fn target_records(
-    powers: &[u8; 510],
-    logs: &[u8; 256],
+    tables: &Tables,
     z: Sizes,
     scratch: &[u8],
     count: usize,
@@ -173,8 +170,7 @@ fn target_records(
     archive: &mut [u8],
     target: usize,
 )
-    requires { ⌜ PowerTable (now powers)
-        × LogTable (now logs)
+    requires { ⌜ FieldTables (now tables)
         × (sizesOutside z ≡ false)
         × (count ≤ 40)
         × (target < z .nodes)
@@ -184,8 +180,10 @@ fn target_records(
     ensures { λ _.
         let thetas = now (thetas .entry) in
         let scratch = now (scratch .entry) in
-        ⌜ now (archive .exit)
-        ≡ grid (z .places) (recordLength z) (recordStart z (target * z .places)) (λ k. mixed count (λ t. at thetas (t * z .places + k)) (λ t e. at scratch (t * recordLength z + e))) (now (archive .entry)) ⌝ }
+        let theta : ℕ → ℕ → ℕ = λ k t. at thetas (t * z .places + k) in
+        let block : ℕ → ℕ → ℕ = λ t e. at scratch (t * recordLength z + e) in
+        let start = recordStart z (target * z .places) in
+        ⌜ now (archive .exit) ≡ grid (z .places) (recordLength z) start (λ k. mixed count (theta k) block) (now (archive .entry)) ⌝ }
 {
     let places = z.places;
     let len = record_length(z);
@@ -193,8 +191,7 @@ fn target_records(
         let start = record_start(z, target * places + k);
         lists::zero(archive, start, len);
         vector::combine(
-            powers,
-            logs,
+            tables,
             count,
             thetas,
             k,
@@ -218,29 +215,27 @@ fn fill_target(
     thetas: &[u8],
     scratch: &mut [u8],
 )
-    requires { ⌜ Passed (archiveAnswer (now archive) (Calls.repair target (now helpers) q (now gammas) (now thetas) (length (now scratch)))) ⌝ }
+    requires { let call = Calls.repair target (now helpers) q (now gammas) (now thetas) (length (now scratch)) in
+        ⌜ Passed (archiveAnswer (now archive) call) ⌝ }
     ensures blocks { λ _.
         let archive = now (archive .entry) in
         let helpers = now (helpers .entry) in
         let gammas = now (gammas .entry) in
         ⌜ now (scratch .exit) ≡ scratchMade (sizesOf archive) archive helpers q gammas ⌝ }
     ensures output { λ _.
+        let s = now (archive .entry) in
         let helpers = now (helpers .entry) in
         let gammas = now (gammas .entry) in
         let thetas = now (thetas .entry) in
         let scratch = now (scratch .entry) in
-        ⌜ now (archive .exit)
-        ≡ effectFor (sizesOf (now (archive .entry))) (idOf (now (archive .entry))) (now (archive .entry)) (Calls.repair target helpers q gammas thetas (length scratch)) ⌝ }
+        ⌜ now (archive .exit) ≡ effectFor (sizesOf s) (idOf s) s (Calls.repair target helpers q gammas thetas (length scratch)) ⌝ }
 {
-    let pair = field::tables();
-    let powers = pair.powers;
-    let logs = pair.logs;
+    let tables = field::tables();
     let z = sizes_in(archive);
-    repair_blocks(&powers, &logs, archive, helpers, q, gammas, scratch);
+    repair_blocks(&tables, archive, helpers, q, gammas, scratch);
     set_marks(archive, target * z.places, z.places, true);
     target_records(
-        &powers,
-        &logs,
+        &tables,
         z,
         scratch,
         helpers.len() * q,

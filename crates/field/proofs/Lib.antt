@@ -2,6 +2,6 @@ pub mod XorLaws
 pub mod SumLaws
 pub mod TimesLaws
 pub mod PowerLaws
-pub mod TwiceLaws
+pub mod LaidLaws
 pub mod TableLaws
 pub mod InverseLaws

@@ -1,17 +1,17 @@
--- The rule of the two tables, from one test that antt computes over them whole. Assumes nothing.
+-- The rule of the tables, from one test that antt computes over the two constants whole. Assumes nothing.
 use mathlib.Core.Path.{_≡_, refl, sym, ap, _∙_}
 use mathlib.Core.Bool.{Bool, false}
 use mathlib.Core.List.{List}
 use mathlib.Core.Logic.{⊎-elim}
-use Prim.Native.Nat.{ℕ, zero, suc, _+_, _-_, _%_, _<_, _≤_}
+use Prim.Native.Nat.{ℕ, zero, suc, _+_, _-_, _<_, _≤_}
 use native.Mathlib.Nat.{not-suc-le-zero}
 use native.Mathlib.Omega.{arith}
 use lib.Dec.{T, eqb, eqb→eq, ltb, ltb→lt}
 use Rattle.lists.specs.Lists.{pick, at}
 use Rattle.lists.proofs.AllLaws.{all, all-at, both}
-use Rattle.lists.proofs.TabLaws.{tab-at, order}
+use Rattle.lists.proofs.TabLaws.{order}
 use Rattle.field.specs.Field.{sum, modulus, xtime, xtimes, times, power}
-use Rattle.field.specs.PrivateTables.{doubled, PowerTable, LogTable}
+use Rattle.field.specs.PrivateTables.{logsStart, Laid, FieldTables}
 use Rattle.field.proofs.TimesLaws.{one-times}
 use Rattle.field.proofs.PowerLaws.{power-lt, power-add}
 
@@ -56,13 +56,13 @@ module _ (p l : List ℕ) where
   powers-are f s zero h = eqb→eq (at p 0) 1 f
   powers-are f s (suc k) h = eqb→eq _ _ (all-at 254 (step p) s k (omega arith)) ∙ ap (times 3) (powers-are f s k (omega arith))
 
-  twice-are : ((k : ℕ) → k < 255 → at p k ≡ power 3 k) → (k : ℕ) → k < 510 → at (doubled p) k ≡ power 3 k
-  unfolding doubled
-  twice-are e k h =
-      tab-at 510 (λ i. at p (i % 255)) k h
-      ∙ ⊎-elim
-      (λ (l : k < 255). let q : k % 255 ≡ k = omega arith in rw q (e k l))
-      (λ (l : 255 ≤ k). let q : k % 255 ≡ k - 255 = omega arith in rw q (e (k - 255) (omega arith) ∙ power-back k l))
+  twice-are : {t : List ℕ} → Laid p l t → ((k : ℕ) → k < 255 → at p k ≡ power 3 k) → (k : ℕ) → k < logsStart → at t k ≡ power 3 k
+  twice-are d e k h =
+      ⊎-elim
+      (λ (b : k < 255). d .first k b ∙ e k b)
+      (λ (b : 255 ≤ k).
+      let q : k - 255 + 255 ≡ k = omega arith in
+      rw q at (d .again (k - 255) (omega arith)) ∙ e (k - 255) (omega arith) ∙ power-back k b)
       (order k 255)
 
   logs-are : ((k : ℕ) → k < 255 → at p k ≡ power 3 k) → LogBelow l → T (all 255 (place p l)) → (a : ℕ) → 0 < a → a < 256 → power 3 (at l a) ≡ a
@@ -70,9 +70,13 @@ module _ (p l : List ℕ) where
   logs-are e b o (suc k) h g =
       sym (e (at l (suc k)) (b (suc k) g)) ∙ eqb→eq _ _ (all-at 255 (place p l) o k (omega arith))
 
-  pub tables-pass : {r : List ℕ} → r ≡ doubled p → T (pass p l) → PowerTable r × LogTable l
-  tables-pass e t =
+  pub tables-pass : {t : List ℕ} → Laid p l t → T (pass p l) → FieldTables t
+  tables-pass d t =
       let u = parts t in
       let powers : (k : ℕ) → k < 255 → at p k ≡ power 3 k = powers-are (u .0) (u .1) in
       let below : LogBelow l = λ a h. ltb→lt _ _ (all-at 256 (low l) (u .2) a h) in
-      (rw e (record { power-of = twice-are powers }), record { exponent = below; logarithm = logs-are powers below (u .3) })
+      record {
+        power-of = twice-are d powers;
+        exponent = λ a h. rw (d .logs a h) (below a h);
+        logarithm = λ a f h. ap (power 3) (d .logs a h) ∙ logs-are powers below (u .3) a f h;
+      }

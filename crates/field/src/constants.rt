@@ -1,6 +1,5 @@
 // The power and logarithm tables, as constants.
-ghost use mathlib.Core.Path.{_≡_};
-ghost use Rattle.field.specs.PrivateTables.{doubled, PowerTable, LogTable};
+ghost use Rattle.field.specs.PrivateTables.{Laid, FieldTables};
 
 // The powers of 03, from the power 0 on.
 const POWERS: [u8; 255] = [
@@ -521,29 +520,28 @@ const LOGS: [u8; 256] = [
     7,
 ];
 
-// The powers twice in a row, so that the sum of two logarithms is an index.
-fn twice(powers: [u8; 255]) -> [u8; 510]
-    ensures { λ r. ⌜ r ≡ doubled powers ⌝ }
+// Where the logarithms begin in the tables that are lent.
+pub const LOGS_START: usize = 510;
+
+// The powers twice in a row, so that the sum of two logarithms is an index, then the logarithms.
+pub type Tables = [u8; 766];
+
+fn laid(powers: [u8; 255], logs: [u8; 256]) -> Tables
+    ensures { λ r. ⌜ Laid powers logs r ⌝ }
 {
-    let mut out = [0u8; 510];
+    let mut out = [0u8; 766];
     for i in 0..255 {
         out[i] = powers[i];
         out[i + 255] = powers[i];
+        out[i + LOGS_START] = logs[i];
     }
+    out[765] = logs[255];
     out
 }
 
-pub struct TablePair {
-    pub powers: [u8; 510],
-    pub logs: [u8; 256],
-}
-
-// The tables by value. A loop copies them to locals once before it begins: a constant table is rebuilt on the stack at each use.
-pub fn tables() -> TablePair
-    ensures { λ r. ⌜ PowerTable (r .powers) × LogTable (r .logs) ⌝ }
+// The tables by value. A loop copies them to a local once before it begins: a constant table is rebuilt on the stack at each use.
+pub fn tables() -> Tables
+    ensures { λ r. ⌜ FieldTables r ⌝ }
 {
-    TablePair {
-        powers: twice(POWERS),
-        logs: LOGS,
-    }
+    laid(POWERS, LOGS)
 }

@@ -1,53 +1,54 @@
 // The field GF(2^8) of FIPS 197: products by a table of powers and its logarithms.
 mod constants;
 
-pub use constants::TablePair;
+use constants::LOGS_START;
+pub use constants::Tables;
 pub use constants::tables;
 ghost use mathlib.Core.Path.{_≡_};
 ghost use Prim.Native.Nat.{_<_};
 ghost use Rattle.field.specs.Field.{times, power};
 ghost use Rattle.field.specs.Inverse.{inverted, invertedOutcome};
-ghost use Rattle.field.specs.PrivateTables.{PowerTable, LogTable};
+ghost use Rattle.field.specs.PrivateTables.{FieldTables};
 ghost use Rattle.field.specs.Laws.{FieldLaws};
 use answer::Outcome;
 use answer::Refusal;
 
 // 03 to the k, for k up to the sum of two logarithms.
-fn exp(powers: &[u8; 510], k: usize) -> u8
-    requires { ⌜ PowerTable (now powers) × (k < 510) ⌝ }
+fn exp(tables: &Tables, k: usize) -> u8
+    requires { ⌜ FieldTables (now tables) × (k < 510) ⌝ }
     ensures { λ r. ⌜ r ≡ power 3 k ⌝ }
 {
-    powers[k]
+    tables[k]
 }
 
 // The logarithm of a, where a is not zero.
-pub fn log(logs: &[u8; 256], a: u8) -> usize
-    requires { ⌜ LogTable (now logs) ⌝ }
+pub fn log(tables: &Tables, a: u8) -> usize
+    requires { ⌜ FieldTables (now tables) ⌝ }
     ensures { λ r. ⌜ (r < 255) × (0 < a → power 3 r ≡ a) ⌝ }
 {
-    lists::widen(logs[lists::widen(a)])
+    lists::widen(tables[lists::widen(a) + LOGS_START])
 }
 
 // 03 to the k times b: for loops over b, with k the logarithm of an element that stays.
-pub fn raised(powers: &[u8; 510], logs: &[u8; 256], k: usize, b: u8) -> u8
-    requires { ⌜ PowerTable (now powers) × LogTable (now logs) × (k < 255) ⌝ }
+pub fn raised(tables: &Tables, k: usize, b: u8) -> u8
+    requires { ⌜ FieldTables (now tables) × (k < 255) ⌝ }
     ensures { λ r. ⌜ r ≡ times (power 3 k) b ⌝ }
 {
     if b == 0 {
         return 0;
     }
-    exp(powers, k + log(logs, b))
+    exp(tables, k + log(tables, b))
 }
 
-// The product over lent tables, for loops.
-pub fn product(powers: &[u8; 510], logs: &[u8; 256], a: u8, b: u8) -> u8
-    requires { ⌜ PowerTable (now powers) × LogTable (now logs) ⌝ }
+// The product over the lent tables, for loops.
+pub fn product(tables: &Tables, a: u8, b: u8) -> u8
+    requires { ⌜ FieldTables (now tables) ⌝ }
     ensures { λ r. ⌜ r ≡ times a b ⌝ }
 {
     if a == 0 {
         return 0;
     }
-    raised(powers, logs, log(logs, a), b)
+    raised(tables, log(tables, a), b)
 }
 
 // The product.
@@ -55,9 +56,7 @@ pub fn multiply(a: u8, b: u8) -> u8
     ensures { λ r. ⌜ r ≡ times a b ⌝ }
 {
     let t = tables();
-    let powers = t.powers;
-    let logs = t.logs;
-    product(&powers, &logs, a, b)
+    product(&t, a, b)
 }
 
 // What the inverse of a byte is.
@@ -74,9 +73,7 @@ pub fn inverse(a: u8) -> Inverted
         return Inverted::Zero;
     }
     let t = tables();
-    let powers = t.powers;
-    let logs = t.logs;
-    Inverted::Element(exp(&powers, 255 - log(&logs, a)))
+    Inverted::Element(exp(&t, 255 - log(&t, a)))
 }
 
 // Done for an element, the refusal 10 for zero.

@@ -3,12 +3,18 @@ ghost use mathlib.Core.Path.{_≡_};
 ghost use Prim.Native.Nat.{_+_, _*_, _<_, _≤_};
 ghost use lib.ListN.{length, getD};
 ghost use Rattle.lists.specs.Lists.{at, put};
-ghost use Rattle.keystream.specs.ChaCha.{rotl, quarterOf, quarterBy, quadruples, quartersTo, rounds, blockWords, wordAt, start, byteOf, serialised};
+ghost use Rattle.keystream.specs.ChaCha.{rotl, quarterOf, quarterBy, quadruples, quartersTo, rounds};
+ghost use Rattle.keystream.specs.ChaCha.{blockWords, wordAt, start, byteOf, serialised};
 ghost use Rattle.keystream.specs.PrivateStream.{pairsOf};
 ghost use Rattle.keystream.specs.Draws.{byteAt};
 ghost use Rattle.keystream.specs.Block.{blockAnswer, blockOut};
 use answer::Outcome;
 use answer::Refusal;
+
+// The key and the nonce of RFC 8439, by value.
+pub type Key = [u8; sizes::KEY_LENGTH];
+
+pub type Nonce = [u8; sizes::NONCE_LENGTH];
 
 // The eight quadruples of word positions of a double round: four columns, four diagonals.
 const QUARTERS: [[usize; 4]; 8] = [
@@ -195,7 +201,7 @@ fn spread(w: [u32; 16], out: &mut [u8], from: usize)
 }
 
 // The first 64 times `count` bytes of the stream, block by block, at the front of out.
-pub fn fill(key: [u8; 32], nonce: [u8; 12], out: &mut [u8], count: usize)
+pub fn fill(key: Key, nonce: Nonce, out: &mut [u8], count: usize)
     requires { ⌜ 64 * count ≤ length (now out) ⌝ }
     ensures { λ _. ⌜ now (out .exit) ≡ put (64 * count) 0 (byteAt key nonce) (now (out .entry)) ⌝ }
 {

@@ -3,6 +3,8 @@ mod chacha;
 mod stream;
 
 pub use chacha::Four;
+pub use chacha::Key;
+pub use chacha::Nonce;
 pub use chacha::block;
 pub use chacha::fill;
 pub use chacha::quarter_round;

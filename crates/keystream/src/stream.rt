@@ -3,6 +3,8 @@ ghost use mathlib.Core.Path.{_≡_};
 ghost use Prim.Native.Nat.{_<_};
 ghost use Rattle.lists.specs.Lists.{at};
 ghost use Rattle.keystream.specs.PrivateStream.{fresh, drawn, DrawLaws};
+use super::chacha::Key;
+use super::chacha::Nonce;
 use super::chacha::block_pairs;
 use super::chacha::start_state;
 
@@ -40,7 +42,7 @@ fn pair_at(b: [u64; 8], i: usize) -> u64
 
 impl Stream {
     // At counter 0.
-    pub fn new(key: [u8; 32], nonce: [u8; 12]) -> Stream
+    pub fn new(key: Key, nonce: Nonce) -> Stream
         ensures { λ r. ⌜ r ≡ fresh key nonce ⌝ }
     {
         let mut w = start_state(&key, 0, &nonce);

@@ -8,10 +8,11 @@ ghost use mathlib.Core.Path.{_≡_};
 ghost use Prim.Native.Nat.{ℕ, _<_, _≤_};
 ghost use Rattle.lists.specs.Lists.{at};
 ghost use Rattle.field.specs.Field.{plus, times};
-ghost use Rattle.field.specs.PrivateTables.{PowerTable, LogTable};
+ghost use Rattle.field.specs.PrivateTables.{FieldTables};
 ghost use Rattle.linear.specs.PrivateElimination.{cells, Reduces, LastIsCombined};
 ghost use Rattle.linear.specs.PrivateSteps.{unitAt, swapOp, scaleOp, Operated};
 use field::Inverted;
+use field::Tables;
 
 // The inverse of an element that is not zero.
 fn inverse_of(a: u8) -> u8
@@ -38,31 +39,25 @@ fn swapped(a: [[u8; 16]; 16], i: usize, j: usize) -> [[u8; 16]; 16]
 }
 
 // The row v and c times the row w, added.
-fn added_row(powers: &[u8; 510], logs: &[u8; 256], v: [u8; 16], w: [u8; 16], c: u8) -> [u8; 16]
-    requires { ⌜ PowerTable (now powers) × LogTable (now logs) ⌝ }
+fn added_row(tables: &Tables, v: [u8; 16], w: [u8; 16], c: u8) -> [u8; 16]
+    requires { ⌜ FieldTables (now tables) ⌝ }
     ensures { λ r. ⌜ ((j : ℕ) → j < 16 → at r j ≡ plus (at v j) (times c (at w j))) ⌝ }
 {
     let mut out = v;
     for j in 0..16 {
-        out[j] = v[j] ^ field::product(powers, logs, c, w[j]);
+        out[j] = v[j] ^ field::product(tables, c, w[j]);
     }
     out
 }
 
 // Row r times c.
-fn scaled(
-    powers: &[u8; 510],
-    logs: &[u8; 256],
-    a: [[u8; 16]; 16],
-    r: usize,
-    c: u8,
-) -> [[u8; 16]; 16]
-    requires { ⌜ PowerTable (now powers) × LogTable (now logs) × (r < 16) ⌝ }
+fn scaled(tables: &Tables, a: [[u8; 16]; 16], r: usize, c: u8) -> [[u8; 16]; 16]
+    requires { ⌜ FieldTables (now tables) × (r < 16) ⌝ }
     ensures { λ s. ⌜ Operated 16 (scaleOp r c) a s ⌝ }
 {
     let mut out = a;
     let v = a[r];
-    out[r] = added_row(powers, logs, [0u8; 16], v, c);
+    out[r] = added_row(tables, [0u8; 16], v, c);
     out
 }
 
@@ -80,14 +75,13 @@ fn unit() -> [[u8; 16]; 16]
 // Elimination over lent tables: column by column, a pivot is sought among the rows below the rank, brought up and made one, and the
 // other rows are cleared by it. What is done to the rows is done to the unit matrix.
 fn eliminated(
-    powers: &[u8; 510],
-    logs: &[u8; 256],
+    tables: &Tables,
     a: [[u8; 16]; 16],
     k: usize,
     m: usize,
     rank: &mut usize,
 ) -> [[u8; 16]; 16]
-    requires { ⌜ PowerTable (now powers) × LogTable (now logs) × (k ≤ 16) × (m ≤ 16) ⌝ }
+    requires { ⌜ FieldTables (now tables) × (k ≤ 16) × (m ≤ 16) ⌝ }
     ensures { λ t. ⌜ Reduces k m (cells a) (cells t) (now (rank .exit)) ⌝ }
 {
     let mut e = a;
@@ -105,15 +99,15 @@ fn eliminated(
             r += 1;
         };
         let c = inverse_of(e[q][col]);
-        e = scaled(powers, logs, swapped(e, top, q), top, c);
-        t = scaled(powers, logs, swapped(t, top, q), top, c);
+        e = scaled(tables, swapped(e, top, q), top, c);
+        t = scaled(tables, swapped(t, top, q), top, c);
         'rows: for i in 0..k {
             if i == top {
                 continue 'rows;
             }
             let x = e[i][col];
-            e[i] = added_row(powers, logs, e[i], e[top], x);
-            t[i] = added_row(powers, logs, t[i], t[top], x);
+            e[i] = added_row(tables, e[i], e[top], x);
+            t[i] = added_row(tables, t[i], t[top], x);
         }
         top += 1;
     }
@@ -127,10 +121,8 @@ pub fn reduce(a: [[u8; 16]; 16], k: usize, m: usize, rank: &mut usize) -> [[u8; 
     requires { ⌜ (k ≤ 16) × (m ≤ 16) ⌝ }
     ensures { λ t. ⌜ Reduces k m (cells a) (cells t) (now (rank .exit)) ⌝ }
 {
-    let pair = field::tables();
-    let powers = pair.powers;
-    let logs = pair.logs;
-    eliminated(&powers, &logs, a, k, m, rank)
+    let tables = field::tables();
+    eliminated(&tables, a, k, m, rank)
 }
 
 // Carries the law of a row that is not kept: without its proof the crate is not proved.

@@ -3,9 +3,10 @@ ghost use mathlib.Core.Path.{_≡_};
 ghost use Prim.Native.Nat.{_+_, _≤_};
 ghost use lib.ListN.{length};
 ghost use Rattle.lists.specs.Lists.{at};
-ghost use Rattle.field.specs.PrivateTables.{PowerTable, LogTable};
+ghost use Rattle.field.specs.PrivateTables.{FieldTables};
 ghost use Rattle.vector.specs.Vectors.{product};
 ghost use Rattle.linear.specs.PrivateRows.{kept};
+use field::Tables;
 
 // A row of m elements, kept as sixteen bytes, those past m zero.
 pub struct Row {
@@ -23,10 +24,10 @@ pub fn row_from(s: &[u8], from: usize, m: usize) -> Row
 }
 
 // The product of a row's m elements and the first m bytes of a vector.
-pub fn dot(powers: &[u8; 510], logs: &[u8; 256], row: Row, vector: &[u8], m: usize) -> u8
-    requires { ⌜ PowerTable (now powers) × LogTable (now logs) × (m ≤ 16) × (m ≤ length (now vector)) ⌝ }
+pub fn dot(tables: &Tables, row: Row, vector: &[u8], m: usize) -> u8
+    requires { ⌜ FieldTables (now tables) × (m ≤ 16) × (m ≤ length (now vector)) ⌝ }
     ensures { λ r. ⌜ r ≡ product m (at (row .bytes)) (at (now (vector .entry))) ⌝ }
 {
     let bytes = row.bytes;
-    vector::product_of(powers, logs, &bytes, vector, m)
+    vector::product_of(tables, &bytes, vector, m)
 }

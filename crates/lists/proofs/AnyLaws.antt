@@ -1,6 +1,6 @@
 -- Laws of `anyOf` and `anyBelow`. Assumes nothing.
 use Prim.Native.Nat.{ℕ, zero, suc, _+_, _<_}
-use mathlib.Core.Path.{_≡_, refl, sym}
+use mathlib.Core.Path.{_≡_, refl}
 use mathlib.Core.Bool.{Bool, true, false, _&&_, _||_}
 use mathlib.Core.List.{List, [], _∷_, _++_}
 use native.Mathlib.Omega.{arith}
@@ -11,14 +11,17 @@ either-false : (a b : Bool) → pick a true b ≡ false → (a ≡ false) × (b 
 either-false true b e = let q : _≡_ {A = ℕ} 0 1 = cc in absurd (omega arith)
 either-false false b e = (refl, e)
 
--- where no test holds: the first, and the rest
-pub any-first : (a : Bool) (ts : List Bool) → anyOf (a ∷ ts) ≡ false → a ≡ false
-unfolding anyOf
-any-first a ts e = either-false a (anyOf ts) e .0
+abbrev pub nth : List Bool → ℕ → Bool
+nth [] k = false
+nth (t ∷ ts) zero = t
+nth (t ∷ ts) (suc k) = nth ts k
 
-pub any-rest : (a : Bool) (ts : List Bool) → anyOf (a ∷ ts) ≡ false → anyOf ts ≡ false
+-- where no test of a list holds: the one with number k, from 0
+pub none-at : (ts : List Bool) (k : ℕ) → anyOf ts ≡ false → nth ts k ≡ false
 unfolding anyOf
-any-rest a ts e = either-false a (anyOf ts) e .1
+none-at [] k e = refl
+none-at (t ∷ ts) zero e = either-false t (anyOf ts) e .0
+none-at (t ∷ ts) (suc k) e = none-at ts k (either-false t (anyOf ts) e .1)
 
 pub any-below : (n : ℕ) (f : ℕ → Bool) → anyBelow n f ≡ false → (i : ℕ) → i < n → f i ≡ false
 unfolding anyBelow
@@ -89,18 +92,14 @@ pub or-false : (a b : Bool) → (a || b) ≡ false → (a ≡ false) × (b ≡ f
 or-false true b e = let q : _≡_ {A = ℕ} 0 1 = cc in absurd (omega arith)
 or-false false b e = (refl, e)
 
--- a list of tests, as code writes it: from the first to the last
-pub any-two : (a b : Bool) → (a || b) ≡ anyOf (a ∷ b ∷ [])
-unfolding anyOf
-any-two true b = refl
-any-two false b = sym (any-last b)
+-- a list of tests as code writes it, from the first to the last: (t || u) || v
+abbrev pub orAll : Bool → List Bool → Bool
+orAll t [] = t
+orAll t (u ∷ us) = orAll (t || u) us
 
-pub any-three : (a b c : Bool) → ((a || b) || c) ≡ anyOf (a ∷ b ∷ c ∷ [])
+pub any-of : (t : Bool) (us : List Bool) → orAll t us ≡ anyOf (t ∷ us)
 unfolding anyOf
-any-three true b c = refl
-any-three false b c = any-two b c
-
-pub any-four : (a b c d : Bool) → (((a || b) || c) || d) ≡ anyOf (a ∷ b ∷ c ∷ d ∷ [])
-unfolding anyOf
-any-four true b c d = refl
-any-four false b c d = any-three b c d
+any-of true [] = refl
+any-of false [] = refl
+any-of true (u ∷ us) = any-of true us
+any-of false (u ∷ us) = any-of u us

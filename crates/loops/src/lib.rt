@@ -22,11 +22,9 @@ pub extern "C" fn loops_product(a: &[u8], b: &[u8]) -> u8
         let b = now (b .entry) in
         ⌜ r ≡ product (min (length a) (length b)) (at a) (at b) ⌝ }
 {
-    let t = field::tables();
-    let powers = t.powers;
-    let logs = t.logs;
+    let tables = field::tables();
     let n = shorter(a.len(), b.len());
-    vector::product_of(&powers, &logs, a, b, n)
+    vector::product_of(&tables, a, b, n)
 }
 
 // The sum of the first n bytes of a stream.

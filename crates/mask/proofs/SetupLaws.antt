@@ -7,7 +7,7 @@ use lib.ListN.{length}
 use Rattle.lists.specs.Lists.{at, put}
 use Rattle.lists.proofs.TabLaws.{tab-same}
 use Rattle.lists.proofs.PutLaws.{put-front}
-use Rattle.lists.proofs.AnyLaws.{any-first, any-rest}
+use Rattle.lists.proofs.AnyLaws.{none-at}
 use Rattle.answer.specs.declared.Outcome.{Outcome}
 use Rattle.answer.specs.declared.Outcome.the-variants.{Done}
 use Rattle.answer.proofs.RefusalLaws.{accepted, same, inside}
@@ -33,8 +33,7 @@ module _ (tagKey maskKey id : List ℕ) (n : ℕ) (out : List ℕ) {o : Outcome}
       let a = accepted _ _ _ (sym answer ∙ e) in
       let r = inside 3 1024 n (a .0) in
       let t = accepted _ _ _ (a .1) .0 in
-      let u = any-rest _ _ (any-rest _ _ t) in
-      (r .0, r .1, same _ _ (any-first _ _ t), same _ _ (any-first _ _ (any-rest _ _ t)), same _ _ (any-first _ _ u), same _ _ (any-first _ _ (any-rest _ _ u)))
+      (r .0, r .1, same _ _ (none-at _ 0 t), same _ _ (none-at _ 1 t), same _ _ (none-at _ 2 t), same _ _ (none-at _ 3 t))
 
 -- auxiliary elements over equal key elements
 pub auxiliary-same : (n : ℕ) (v v′ : ℕ → ℕ) (rows : ℕ → ℕ → ℕ) → ((e : ℕ) → e < n - 2 → v e ≡ v′ e) → auxiliary n v rows ≡ auxiliary n v′ rows

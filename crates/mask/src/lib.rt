@@ -6,6 +6,7 @@ ghost use Prim.Native.Nat.{_-_, _≤_};
 ghost use lib.ListN.{length};
 ghost use Rattle.lists.specs.Lists.{anyBelow};
 ghost use Rattle.answer.specs.Refusals.{differs};
+ghost use Rattle.sizes.specs.Lengths.{idLength, keyLength, nLeast, nMost};
 ghost use Rattle.tag.specs.KeyVector.{keyVector};
 ghost use Rattle.mask.specs.Masks.{maskRow, auxiliary};
 ghost use Rattle.mask.specs.Setup.{setupAnswer, setupOut};
@@ -17,7 +18,7 @@ pub use rows::mask_sum;
 
 // Whether one of the first len key elements is not zero.
 fn any_element(tag_key: &[u8], id: &[u8], len: usize) -> bool
-    requires { ⌜ (length (now «tag_key») ≡ 32) × (length (now id) ≡ 8) ⌝ }
+    requires { ⌜ (length (now «tag_key») ≡ keyLength) × (length (now id) ≡ idLength) ⌝ }
     ensures { λ r. ⌜ r ≡ anyBelow len (λ e. differs (keyVector (now («tag_key» .entry)) (now (id .entry)) e) 0) ⌝ }
 {
     let mut s = tag::key_stream(tag_key, id);
@@ -41,7 +42,7 @@ fn setup_check(tag_key: &[u8], mask_key: &[u8], id: &[u8], n: usize, out: &[u8])
         let out = now (out .entry) in
         ⌜ r ≡ setupAnswer tagKey maskKey id n out ⌝ }
 {
-    if answer::outside(3, 1024, n) {
+    if sizes::n_outside(n) {
         return Outcome::Refused(Refusal::Size);
     }
     if (tag_key.len() != sizes::KEY_LENGTH)
@@ -59,11 +60,11 @@ fn setup_check(tag_key: &[u8], mask_key: &[u8], id: &[u8], n: usize, out: &[u8])
 
 // The auxiliary elements of two keys that were accepted.
 fn setup_into(tag_key: &[u8], mask_key: &[u8], id: &[u8], n: usize, out: &mut [u8])
-    requires { ⌜ (3 ≤ n)
-        × (n ≤ 1024)
-        × (length (now «tag_key») ≡ 32)
-        × (length (now «mask_key») ≡ 32)
-        × (length (now id) ≡ 8)
+    requires { ⌜ (nLeast ≤ n)
+        × (n ≤ nMost)
+        × (length (now «tag_key») ≡ keyLength)
+        × (length (now «mask_key») ≡ keyLength)
+        × (length (now id) ≡ idLength)
         × (length (now out) ≡ n - 1) ⌝ }
     ensures { λ _.
         let tagKey = now («tag_key» .entry) in
@@ -71,20 +72,15 @@ fn setup_into(tag_key: &[u8], mask_key: &[u8], id: &[u8], n: usize, out: &mut [u
         let maskKey = now («mask_key» .entry) in
         ⌜ now (out .exit) ≡ auxiliary n (keyVector tagKey id) (maskRow maskKey id) ⌝ }
 {
-    let pair = field::tables();
-    let powers = pair.powers;
-    let logs = pair.logs;
-    let mut vector = [0u8; 1024];
-    tag::key_vector_into(tag_key, id, &mut vector, 16);
-    rows::auxiliary_into(
-        &powers,
-        &logs,
-        tag::key_array(mask_key),
+    let tables = field::tables();
+    let mut vector = [0u8; sizes::N_MOST];
+    tag::key_vector_into(
+        tag_key,
         id,
-        &vector,
-        n,
-        out,
+        &mut vector,
+        sizes::N_MOST / sizes::STREAM_BLOCK_LENGTH,
     );
+    rows::auxiliary_into(&tables, tag::key_array(mask_key), id, &vector, n, out);
 }
 
 // The n - 1 auxiliary elements, of the tag key and the mask key.

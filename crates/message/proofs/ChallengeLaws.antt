@@ -10,7 +10,7 @@ use lib.Seq.{ext-getD}
 use borrow.Author.Tests.{eq-eqb, ltb-false}
 use Rattle.lists.specs.Lists.{at, anyOf}
 use Rattle.lists.proofs.TabLaws.{length-tab, tab-at}
-use Rattle.lists.proofs.AnyLaws.{any-first, any-rest, any-below}
+use Rattle.lists.proofs.AnyLaws.{none-at, any-below}
 use Rattle.answer.specs.declared.Outcome.the-variants.{Done}
 use Rattle.answer.specs.Refusals.{afterwards}
 use Rattle.answer.proofs.RefusalLaws.{accepted, same, inside}
@@ -48,13 +48,11 @@ pub record InRule (c : Challenge) : Type 0 where
 pub in-rule : (c : Challenge) → outOfRule (c .node) (c .places) ≡ false → InRule c
 unfolding outOfRule
 in-rule c e =
-    let two = any-rest _ _ e in
-    let three = any-rest _ _ two in
     record {
-      node-low = ltb-false 5 (c .node) (any-first _ _ e);
-      some = inside 1 8 (length (c .places)) (any-first _ _ two) .0;
-      few = inside 1 8 (length (c .places)) (any-first _ _ two) .1;
-      places-low = λ j h. ltb-false 7 (at (c .places) j) (any-below (length (c .places)) _ (any-first _ _ three) j h);
+      node-low = ltb-false 5 (c .node) (none-at _ 0 e);
+      some = inside 1 8 (length (c .places)) (none-at _ 1 e) .0;
+      few = inside 1 8 (length (c .places)) (none-at _ 1 e) .1;
+      places-low = λ j h. ltb-false 7 (at (c .places) j) (any-below (length (c .places)) _ (none-at _ 2 e) j h);
     }
 
 -- ---- it is read back

@@ -7,7 +7,7 @@ use native.Mathlib.Omega.{arith}
 use lib.ListN.{length}
 use Rattle.lists.specs.Lists.{at}
 use Rattle.lists.proofs.TabLaws.{length-tab, tab-at}
-use Rattle.lists.proofs.AnyLaws.{any-first, any-rest}
+use Rattle.lists.proofs.AnyLaws.{none-at}
 use Rattle.answer.proofs.RefusalLaws.{same}
 use Rattle.bits.specs.Fields.{fieldAt}
 use Rattle.message.specs.Challenge.{challengeBits, challengeLength, challengeIn, challengeOf, malformedFor, malformedChallenge}
@@ -29,9 +29,8 @@ unfolding malformedFor challengeOf challengeIn
 readable message e =
     let count = fieldAt message 7 4 in
     let is : length (challengeOf message .places) ≡ count = length-tab count _ in
-    let rest = any-rest _ _ e in
-    let rule : InRule (challengeOf message) = in-rule (challengeOf message) (any-first _ _ rest) in
-    let exact = same (length message) (challengeLength (length (challengeOf message .places))) (any-first _ _ (any-rest _ _ rest)) in
+    let rule : InRule (challengeOf message) = in-rule (challengeOf message) (none-at _ 1 e) in
+    let exact = same (length message) (challengeLength (length (challengeOf message .places))) (none-at _ 2 e) in
     record {
       node-is = refl;
       node-low = rule .node-low;

@@ -7,7 +7,7 @@ use native.Mathlib.Omega.{arith}
 use lib.ListN.{length, replicate, length-replicate, getD-replicate}
 use borrow.Author.Tests.{leb-false}
 use Rattle.lists.specs.Lists.{at}
-use Rattle.lists.proofs.AnyLaws.{any-first, any-rest, any-below}
+use Rattle.lists.proofs.AnyLaws.{none-at, any-below}
 use Rattle.field.specs.Field.{plus, times}
 use Rattle.field.proofs.SumLaws.{sum-same}
 use Rattle.bits.specs.Fields.{fieldAt}
@@ -24,7 +24,7 @@ firstNamed c u start len count = mixed count (at (c .coefficients)) (λ j e. at 
 -- places that are named are there, and so are their vectors
 module _ (z : Sizes) (message : List ℕ) (there : notThere z (challengeOf message) ≡ false) where
   pub place-there : (j : ℕ) → j < length (challengeOf message .places) → at (challengeOf message .places) j < z .places
-  place-there j h = leb-false _ _ (any-below _ _ (any-first _ _ (any-rest _ _ there)) j h)
+  place-there j h = leb-false _ _ (any-below _ _ (none-at _ 1 there) j h)
 
   pub vectors-there : (start len : ℕ) {n : ℕ} → start + z .places * len ≤ n
       → (j : ℕ) → j < length (challengeOf message .places) → start + at (challengeOf message .places) j * len + len ≤ n

@@ -8,7 +8,7 @@ use borrow.Author.Tests.{lt-ltb}
 use Rattle.lists.specs.Lists.{at, tab, put}
 use Rattle.lists.proofs.TabLaws.{is-tab}
 use Rattle.lists.proofs.PutLaws.{length-put, put-front}
-use Rattle.lists.proofs.AnyLaws.{any-first, any-rest}
+use Rattle.lists.proofs.AnyLaws.{none-at}
 use Rattle.answer.specs.declared.Outcome.{Outcome}
 use Rattle.answer.specs.declared.Outcome.the-variants.{Done}
 use Rattle.answer.proofs.RefusalLaws.{accepted, same, inside}
@@ -28,8 +28,7 @@ module _ (n : ℕ) (id maskKey response out : List ℕ) {o : Outcome} (answer : 
       let a = accepted _ _ _ (sym answer ∙ e) in
       let r = inside 3 1024 n (a .0) in
       let t = accepted _ _ _ (a .1) .0 in
-      let u = any-rest _ _ (any-rest _ _ t) in
-      (r .0, r .1, same _ _ (any-first _ _ t), same _ _ (any-first _ _ (any-rest _ _ t)), same _ _ (any-first _ _ u), same _ _ (any-first _ _ (any-rest _ _ u)))
+      (r .0, r .1, same _ _ (none-at _ 0 t), same _ _ (none-at _ 1 t), same _ _ (none-at _ 2 t), same _ _ (none-at _ 3 t))
 
 -- the part of a response that is its seed
 pub seed-part : (n k : ℕ) (response : List ℕ) → k ≡ 11 → take k (drop (n - 1) response) ≡ seedIn n response

@@ -5,12 +5,14 @@ ghost use Prim.Native.Nat.{ℕ, _+_, _-_, _*_, _<_, _≤_};
 ghost use lib.ListN.{length};
 ghost use lib.Dec.{ltb, leb};
 ghost use Rattle.lists.specs.Lists.{at, anyBelow};
-ghost use Rattle.field.specs.PrivateTables.{PowerTable, LogTable};
+ghost use Rattle.field.specs.PrivateTables.{FieldTables};
 ghost use Rattle.bits.specs.Fields.{fieldAt};
 ghost use Rattle.vector.specs.Vectors.{mixed, added};
-ghost use Rattle.message.specs.Challenge.{challengeFor, challengeBits, challengeLength, challengeBytes, outOfRule, challengeOf, malformedChallenge, challengeAnswer, challengeOut, notThere};
+ghost use Rattle.message.specs.Challenge.{challengeFor, challengeBits, challengeLength, challengeBytes, outOfRule};
+ghost use Rattle.message.specs.Challenge.{challengeOf, malformedChallenge, challengeAnswer, challengeOut, notThere};
 use answer::Outcome;
 use answer::Refusal;
+use field::Tables;
 use sizes::Sizes;
 
 // The bytes of a challenge of so many items.
@@ -228,36 +230,26 @@ pub fn not_there(z: Sizes, message: &[u8]) -> bool
 
 // Adds the vectors of its places, each times its coefficient. Vector p of u stands at start + p * len.
 pub fn add_named(
-    powers: &[u8; 510],
-    logs: &[u8; 256],
+    tables: &Tables,
     message: &[u8],
     u: &[u8],
     start: usize,
     out: &mut [u8],
     len: usize,
 )
-    requires { ⌜ PowerTable (now powers)
-        × LogTable (now logs)
+    requires { let c = challengeOf (now message) in
+        ⌜ FieldTables (now tables)
         × (malformedChallenge (now message) ≡ false)
-        × ((j : ℕ) → j < length (challengeOf (now message) .places) → start + at (challengeOf (now message) .places) j * len + len ≤ length (now u))
+        × ((j : ℕ) → j < length (c .places) → start + at (c .places) j * len + len ≤ length (now u))
         × (len ≤ length (now out)) ⌝ }
     ensures { λ _.
-        let message = now (message .entry) in
+        let c = challengeOf (now (message .entry)) in
         let u = now (u .entry) in
-        ⌜ now (out .exit)
-        ≡ added len 0 (mixed (length (challengeOf message .places)) (at (challengeOf message .coefficients)) (λ j e. at u (start + at (challengeOf message .places) j * len + e))) (now (out .entry)) ⌝ }
+        let vector : ℕ → ℕ → ℕ = λ j e. at u (start + at (c .places) j * len + e) in
+        ⌜ now (out .exit) ≡ added len 0 (mixed (length (c .places)) (at (c .coefficients)) vector) (now (out .entry)) ⌝ }
 {
     for j in 0..count_in(message) {
         let first = start + place_in(message, j) * len;
-        vector::add_multiple(
-            powers,
-            logs,
-            coefficient_in(message, j),
-            u,
-            first,
-            out,
-            0,
-            len,
-        );
+        vector::add_multiple(tables, coefficient_in(message, j), u, first, out, 0, len);
     }
 }

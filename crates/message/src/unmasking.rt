@@ -3,7 +3,7 @@ ghost use mathlib.Core.Path.{_≡_};
 ghost use Prim.Native.Nat.{_-_, _≤_};
 ghost use lib.ListN.{length};
 ghost use Rattle.lists.specs.Lists.{tab};
-ghost use Rattle.sizes.specs.Lengths.{responseLength};
+ghost use Rattle.sizes.specs.Lengths.{responseLength, idLength, keyLength, nLeast, nMost};
 ghost use Rattle.message.specs.Unmask.{unmaskAnswer, unmasked, unmaskOut};
 use answer::Outcome;
 use answer::Refusal;
@@ -17,7 +17,7 @@ fn unmask_check(n: usize, id: &[u8], mask_key: &[u8], response: &[u8], out: &[u8
         let out = now (out .entry) in
         ⌜ r ≡ unmaskAnswer n id maskKey response out ⌝ }
 {
-    if answer::outside(3, 1024, n) {
+    if sizes::n_outside(n) {
         return Outcome::Refused(Refusal::Size);
     }
     if (id.len() != sizes::ID_LENGTH)
@@ -38,10 +38,10 @@ fn unmask_check(n: usize, id: &[u8], mask_key: &[u8], response: &[u8], out: &[u8
 
 // The masked bytes, and then the mask of the response's seed taken off them.
 fn unmask_into(n: usize, id: &[u8], mask_key: &[u8], response: &[u8], out: &mut [u8])
-    requires { ⌜ (3 ≤ n)
-        × (n ≤ 1024)
-        × (length (now id) ≡ 8)
-        × (length (now «mask_key») ≡ 32)
+    requires { ⌜ (nLeast ≤ n)
+        × (n ≤ nMost)
+        × (length (now id) ≡ idLength)
+        × (length (now «mask_key») ≡ keyLength)
         × (length (now response) ≡ responseLength n)
         × (length (now out) ≡ n - 2) ⌝ }
     ensures { λ _.

@@ -6,7 +6,7 @@ use native.Mathlib.Omega.{arith}
 use lib.Seq.{ext-getD}
 use Rattle.lists.specs.Lists.{at, tab}
 use Rattle.lists.proofs.TabLaws.{length-tab, tab-at}
-use Rattle.lists.proofs.AnyLaws.{any-first, any-rest}
+use Rattle.lists.proofs.AnyLaws.{none-at}
 use Rattle.answer.specs.Refusals.{afterwards}
 use Rattle.answer.proofs.RefusalLaws.{accepted, same}
 use Rattle.mask.specs.Setup.{setupAnswer, setupOut}
@@ -30,15 +30,15 @@ pub fits : (g : Given) → Fit (setting g)
 unfolding openAnswer
 fits g =
     let o = accepted _ _ _ (g .open-done) in
-    record { ranged = ranged (g .z) (o .0); id-size = same _ _ (any-first _ _ (accepted _ _ _ (o .1) .0)) }
+    record { ranged = ranged (g .z) (o .0); id-size = same _ _ (none-at _ 0 (accepted _ _ _ (o .1) .0)) }
 
 keys : (g : Given) → Keys g
 unfolding setupAnswer setupOut afterwards
 keys g =
     let lengths = accepted _ _ _ (accepted _ _ _ (g .setup-done) .1) .0 in
     record {
-      tag-size = same _ _ (any-first _ _ lengths);
-      mask-size = same _ _ (any-first _ _ (any-rest _ _ lengths));
+      tag-size = same _ _ (none-at _ 0 lengths);
+      mask-size = same _ _ (none-at _ 1 lengths);
       auxiliary-are = rw (g .setup-done);
     }
 

@@ -8,7 +8,7 @@ use lib.Dec.{leb}
 use lib.ListN.{length}
 use borrow.Author.Tests.{leb-false}
 use Rattle.lists.specs.Lists.{at, anyOf, anyBelow}
-use Rattle.lists.proofs.AnyLaws.{any-first, any-rest, any-below, any-same}
+use Rattle.lists.proofs.AnyLaws.{none-at, any-below, any-same}
 use Rattle.answer.specs.declared.Outcome.{Outcome}
 use Rattle.answer.specs.declared.Outcome.the-variants.{Done, Refused}
 use Rattle.answer.specs.declared.Refusal.the-variants.{Size, Length, NoSuchPlace, PlaceEmpty, PlaceFilled}
@@ -23,14 +23,14 @@ use Rattle.promise.proofs.ImageLaws.{Fit, image-sizes, image-id, image-
 
 -- node and place are there; target and helpers are there
 encode-there : (z : Sizes) (node place : ℕ) → anyOf (leb (z .nodes) node ∷ leb (z .places) place ∷ []) ≡ false → (node < z .nodes) × (place < z .places)
-encode-there z node place e = (leb-false (z .nodes) node (any-first _ _ e), leb-false (z .places) place (any-first _ _ (any-rest _ _ e)))
+encode-there z node place e = (leb-false (z .nodes) node (none-at _ 0 e), leb-false (z .places) place (none-at _ 1 e))
 
 repair-there : (z : Sizes) (target : ℕ) (helpers : List ℕ)
     → anyOf (leb (z .nodes) target ∷ anyBelow (length helpers) (λ i. leb (z .nodes) (at helpers i)) ∷ []) ≡ false
     → (target < z .nodes) × ((i : ℕ) → i < length helpers → at helpers i < z .nodes)
 repair-there z target helpers e = (
-  leb-false (z .nodes) target (any-first _ _ e),
-  λ i h. leb-false (z .nodes) (at helpers i) (any-below (length helpers) _ (any-first _ _ (any-rest _ _ e)) i h),
+  leb-false (z .nodes) target (none-at _ 0 e),
+  λ i h. leb-false (z .nodes) (at helpers i) (any-below (length helpers) _ (none-at _ 1 e) i h),
 )
 
 -- the same places filled, the same answer

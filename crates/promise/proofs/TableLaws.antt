@@ -14,7 +14,7 @@ use borrow.Author.Tests.{lt-ltb, le-ltb, eq-eqb, ne-eqb}
 use Rattle.lists.specs.Lists.{pick, at, over, Bytes}
 use Rattle.lists.proofs.TabLaws.{order, length-tab, tab-at}
 use Rattle.lists.proofs.OverLaws.{over-within, over-below, over-above}
-use Rattle.lists.proofs.AnyLaws.{any-first, any-rest}
+use Rattle.lists.proofs.AnyLaws.{none-at}
 use Rattle.answer.specs.declared.Outcome.{Outcome}
 use Rattle.answer.specs.declared.Outcome.the-variants.{Done, Refused}
 use Rattle.answer.specs.Refusals.{afterwards}
@@ -131,7 +131,7 @@ module _ (g : Given) where
   unfolding answerFor
   effect-fine t ht (encode node place file padding key row) e o =
       written-fine (g .z) node place _ _ t
-      (λ j. (same (length row) (g .z .m) (any-first _ _ (any-rest _ _ (any-rest _ _ (any-rest _ _ (accepted _ _ _ e .0))))), o .3)) ht
+      (λ j. (same (length row) (g .z .m) (none-at _ 3 (accepted _ _ _ e .0)), o .3)) ht
   effect-fine t ht (lose node) e o = written-fine (g .z) node 0 _ _ t (λ j. tt) ht
   effect-fine t ht (repair target helpers q gammas thetas scratch) e o =
       written-fine (g .z) target 0 _ _ t (λ k. repaired-fine (g .z) t helpers q gammas thetas k) ht

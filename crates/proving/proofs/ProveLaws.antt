@@ -1,19 +1,14 @@
--- Prove's refusals as its check finds them; the places that a challenge names, and their records combined. Assumes nothing.
+-- The places that a challenge names, and their records combined. Assumes nothing.
 use Prim.Native.Nat.{ℕ, _+_, _-_, _*_, _<_, _≤_}
-use mathlib.Core.Path.{_≡_, sym, ap, _∙_}
-use mathlib.Core.Bool.{Bool, true, false, not, _||_}
+use mathlib.Core.Path.{_≡_, ap, _∙_}
+use mathlib.Core.Bool.{false}
 use mathlib.Core.List.{List}
 use native.Mathlib.Nat.{mul-le-mul}
 use native.Mathlib.Omega.{arith}
 use lib.ListN.{length, replicate}
 use borrow.Author.Tests.{leb-false}
-use Rattle.lists.specs.Lists.{at, anyBelow}
-use Rattle.lists.proofs.AnyLaws.{any-first}
-use Rattle.answer.specs.declared.Outcome.{Outcome}
-use Rattle.answer.specs.declared.Outcome.the-variants.{Done, Refused}
-use Rattle.answer.specs.declared.Refusal.the-variants.{Length, BadArchive, NoSuchPlace, PlaceEmpty, Malformed}
-use Rattle.answer.specs.Refusals.{differs}
-use Rattle.answer.proofs.RefusalLaws.{refused, passed}
+use Rattle.lists.specs.Lists.{at}
+use Rattle.lists.proofs.AnyLaws.{none-at}
 use Rattle.bits.specs.Fields.{fieldAt}
 use Rattle.sizes.specs.declared.Sizes.{Sizes}
 use Rattle.vector.specs.Vectors.{added}
@@ -21,70 +16,10 @@ use Rattle.message.specs.Challenge.{Challenge, challengeBits, challengeOf, malf
 use Rattle.message.proofs.ChallengeReadLaws.{readable}
 use Rattle.message.proofs.NamedLaws.{firstNamed, place-there, named-read}
 use Rattle.sizes.specs.Lengths.{placeCount, recordLength, placeNumber, recordStart}
-use Rattle.archive.specs.Layout.{sizesOf, filledIn, byteIn, badArchive}
-use Rattle.archive.specs.Prove.{proveFor, proveAnswer, namedByte}
+use Rattle.archive.specs.Layout.{sizesOf, byteIn, badArchive}
+use Rattle.archive.specs.Prove.{namedByte}
 use Rattle.sizes.proofs.PlaceLaws.{number-low, count-low, record-fits}
 use Rattle.archive.proofs.GoodArchiveLaws.{good-sizes, good-length}
-use Rattle.archive.proofs.ProveCheckLaws.{lengths-read}
-
--- ---- the refusals one by one, as the code finds their tests
-
--- the test of what is named, over the sizes that were read
-pub there-read : (s message : List ℕ) {z : Sizes} {absent t : Bool} → z ≡ sizesOf s → absent ≡ notThere z (challengeOf message) → absent ≡ t
-    → notThere (sizesOf s) (challengeOf message) ≡ t
-there-read s message zs ts e = rw (← zs) (sym ts ∙ e)
-
-module _ (s maskKey elements seed message out : List ℕ) where
-  abbrev answer : Outcome
-  answer = proveAnswer s maskKey elements seed message out
-
-  abbrev wrongLength : Sizes → Bool
-  wrongLength z = ((differs (length maskKey) 32 || differs (length elements) (z .n - 1)) || differs (length seed) 11) || differs (length out) (z .n + 14)
-
-  module _ {bad : Bool} (bs : bad ≡ badArchive s) where
-    pub refused-bad : bad ≡ true → Refused BadArchive ≡ answer
-    unfolding proveAnswer
-    refused-bad e = sym (refused _ _ (sym bs ∙ e))
-
-    module _ (good : bad ≡ false) {malformed : Bool} (ms : malformed ≡ malformedChallenge message) where
-      pub refused-malformed : malformed ≡ true → Refused Malformed ≡ answer
-      unfolding proveAnswer
-      refused-malformed e = sym (passed _ _ (sym bs ∙ good) ∙ refused _ _ (sym ms ∙ e))
-
-      -- the rest of the refusals
-      read : malformed ≡ false → answer ≡ proveFor (sizesOf s) (filledIn (sizesOf s) s) maskKey elements seed (challengeOf message) out
-      unfolding proveAnswer
-      read formed = passed _ _ (sym bs ∙ good) ∙ passed _ _ (sym ms ∙ formed)
-
-      module _ (formed : malformed ≡ false) {z : Sizes} (zs : z ≡ sizesOf s) where
-        pub refused-length : wrongLength z ≡ true → Refused Length ≡ answer
-        unfolding proveFor
-        refused-length e = sym (read formed ∙ refused _ _ (lengths-read s maskKey elements seed message out zs e))
-
-        module _ (lengths : wrongLength z ≡ false) {absent : Bool} (ts : absent ≡ notThere z (challengeOf message)) where
-          pub refused-absent : absent ≡ true → Refused NoSuchPlace ≡ answer
-          unfolding proveFor
-          refused-absent e =
-              sym (read formed ∙ passed _ _ (lengths-read s maskKey elements seed message out zs lengths) ∙ refused _ _ (there-read s message zs ts e))
-
-          module _ (there : absent ≡ false) {empty : Bool}
-              (es : empty ≡ anyBelow (length (challengeOf message .places)) (λ j.
-              not (filledIn (sizesOf s) s (challengeOf message .node) (at (challengeOf message .places) j)))) where
-            pub refused-empty : empty ≡ true → Refused PlaceEmpty ≡ answer
-            unfolding proveFor
-            refused-empty e =
-                sym (
-                read formed ∙ passed _ _ (lengths-read s maskKey elements seed message out zs lengths) ∙ passed _ _ (there-read s message zs ts there)
-                ∙ refused _ _ (sym es ∙ e))
-
-            pub not-refused : empty ≡ false → Done ≡ answer
-            unfolding proveFor
-            not-refused e =
-                sym (
-                read formed ∙ passed _ _ (lengths-read s maskKey elements seed message out zs lengths) ∙ passed _ _ (there-read s message zs ts there)
-                ∙ passed _ _ (sym es ∙ e))
-
--- ---- the named places
 
 -- the first place of a node that a challenge can name
 pub first-low : (s : List ℕ) {sizes : Sizes} {node : ℕ} → badArchive s ≡ false → sizes ≡ sizesOf s → node ≤ 5 → node * sizes .places ≤ 40
@@ -107,7 +42,7 @@ module _ (s message : List ℕ) (good : badArchive s ≡ false) (ok : malformedC
 
   named-there : (j : ℕ) → j < count → named j < placeCount z
   named-there j h =
-      number-low z (good-sizes s good) (c .node) (at (c .places) j) (leb-false _ _ (any-first _ _ there)) (place-there z message there j h)
+      number-low z (good-sizes s good) (c .node) (at (c .places) j) (leb-false _ _ (none-at _ 0 there)) (place-there z message there j h)
 
   -- as code computes it
   module _ (j : ℕ) (h : j < count) {sizes : Sizes} {node p : ℕ} (e : sizes ≡ z) (f : node ≡ c .node) (g : p ≡ fieldAt message (challengeBits j) 3) where

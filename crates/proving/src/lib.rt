@@ -5,8 +5,8 @@ ghost use Prim.Native.Nat.{ℕ, _+_, _-_, _<_, _≤_};
 ghost use lib.ListN.{length};
 ghost use Rattle.lists.specs.Lists.{at, anyBelow};
 ghost use Rattle.answer.specs.Refusals.{Passed};
-ghost use Rattle.field.specs.PrivateTables.{PowerTable, LogTable};
-ghost use Rattle.sizes.specs.Lengths.{responseLength, recordLength};
+ghost use Rattle.field.specs.PrivateTables.{FieldTables};
+ghost use Rattle.sizes.specs.Lengths.{responseLength, recordLength, idLength, nLeast, nMost, recordMost, seedLength};
 ghost use Rattle.message.specs.Challenge.{challengeOf, malformedChallenge, notThere};
 ghost use Rattle.archive.specs.Layout.{sizesOf, idOf, filledIn, badArchive};
 ghost use Rattle.archive.specs.Prove.{proveAnswer, responseFor, namedByte, provedFor, proveOut};
@@ -15,6 +15,8 @@ use answer::Refusal;
 use archive::bad_archive;
 use archive::marked;
 use archive::sizes_in;
+use field::Tables;
+use keystream::Key;
 use sizes::record_length;
 use sizes::record_start;
 
@@ -24,10 +26,9 @@ fn any_named_empty(archive: &[u8], message: &[u8]) -> bool
         × (malformedChallenge (now message) ≡ false)
         × (notThere (sizesOf (now archive)) (challengeOf (now message)) ≡ false) ⌝ }
     ensures { λ r.
-        let message = now (message .entry) in
+        let c = challengeOf (now (message .entry)) in
         let archive = now (archive .entry) in
-        ⌜ r
-        ≡ anyBelow (length (challengeOf message .places)) (λ j. not (filledIn (sizesOf archive) archive (challengeOf message .node) (at (challengeOf message .places) j))) ⌝ }
+        ⌜ r ≡ anyBelow (length (c .places)) (λ j. not (filledIn (sizesOf archive) archive (c .node) (at (c .places) j))) ⌝ }
 {
     let z = sizes_in(archive);
     let first = message::node_in(message) * z.places;
@@ -81,9 +82,8 @@ fn prove_check(
 }
 
 // The records of the named places, blocks and tags, combined by the challenge.
-fn named_record(powers: &[u8; 510], logs: &[u8; 256], archive: &[u8], message: &[u8]) -> [u8; 1041]
-    requires { ⌜ PowerTable (now powers)
-        × LogTable (now logs)
+fn named_record(tables: &Tables, archive: &[u8], message: &[u8]) -> [u8; sizes::RECORD_MOST]
+    requires { ⌜ FieldTables (now tables)
         × (badArchive (now archive) ≡ false)
         × (malformedChallenge (now message) ≡ false)
         × (notThere (sizesOf (now archive)) (challengeOf (now message)) ≡ false) ⌝ }
@@ -94,10 +94,9 @@ fn named_record(powers: &[u8; 510], logs: &[u8; 256], archive: &[u8], message: &
 {
     let z = sizes_in(archive);
     let start = record_start(z, message::node_in(message) * z.places);
-    let mut record = [0u8; 1041];
+    let mut record = [0u8; sizes::RECORD_MOST];
     message::add_named(
-        powers,
-        logs,
+        tables,
         message,
         archive,
         start,
@@ -113,20 +112,20 @@ fn write_parts(
     n: usize,
     m: usize,
     combined: &[u8],
-    key: [u8; 32],
+    key: Key,
     id: &[u8],
     auxiliary: &[u8],
     seed: &[u8],
     response: &mut [u8],
 )
     requires { ⌜ (node < 8)
-        × (3 ≤ n)
-        × (n ≤ 1024)
+        × (nLeast ≤ n)
+        × (n ≤ nMost)
         × (m ≤ 16)
-        × (length (now combined) ≡ 1041)
-        × (length (now id) ≡ 8)
+        × (length (now combined) ≡ recordMost)
+        × (length (now id) ≡ idLength)
         × (length (now auxiliary) ≡ n - 1)
-        × (length (now seed) ≡ 11)
+        × (length (now seed) ≡ seedLength)
         × (length (now response) ≡ responseLength n) ⌝ }
     ensures { λ _.
         let id = now (id .entry) in
@@ -163,11 +162,9 @@ fn write_response(
         ⌜ now (response .exit)
         ≡ provedFor (sizesOf archive) (idOf archive) archive maskKey auxiliary seed (challengeOf message) ⌝ }
 {
-    let pair = field::tables();
-    let powers = pair.powers;
-    let logs = pair.logs;
+    let tables = field::tables();
     let z = sizes_in(archive);
-    let combined = named_record(&powers, &logs, archive, message);
+    let combined = named_record(&tables, archive, message);
     let node = message::node_in(message);
     let key = tag::key_array(mask_key);
     let id = archive::id_in(archive);

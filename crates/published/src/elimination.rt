@@ -22,13 +22,11 @@ fn kept() {
         &[2, 3, 0, 0, 0, 0, 0, 0, 0, 0, 0, 0, 0, 0, 0, 0],
         &bytes,
     );
-    let t = field::tables();
-    let powers = t.powers;
-    let logs = t.logs;
+    let tables = field::tables();
     cases::number(
         b"Row 02 03 times 02 03",
         1,
-        linear::dot(&powers, &logs, row, &[0x02, 0x03, 0x04], 2) as u64,
+        linear::dot(&tables, row, &[0x02, 0x03, 0x04], 2) as u64,
     );
 }
 

@@ -3,7 +3,7 @@ use Prim.Native.Nat.{ℕ, _+_, _-_, _*_, _<_, _≤_}
 use mathlib.Core.Path.{_≡_, ap, _∙_}
 use mathlib.Core.Bool.{false}
 use mathlib.Core.List.{List}
-use native.Mathlib.Nat.{mul-le-mul, mul-le-mul-right}
+use native.Mathlib.Nat.{mul-le-mul-right}
 use native.Mathlib.Omega.{arith}
 use lib.ListN.{length}
 use Rattle.lists.specs.Lists.{at}
@@ -11,11 +11,11 @@ use Rattle.field.specs.Field.{times}
 use Rattle.sizes.specs.declared.Sizes.{Sizes}
 use Rattle.sizes.specs.Sizes.{sizesOutside}
 use Rattle.vector.specs.Vectors.{mixed, added}
-use Rattle.sizes.proofs.SizeLaws.{Ranged, ranged}
+use Rattle.sizes.proofs.SizeLaws.{ranged}
 use Rattle.vector.proofs.AddedLaws.{mixed-more}
-use Rattle.sizes.specs.Lengths.{placeCount, recordStart, archiveLength, fileLength}
+use Rattle.sizes.specs.Lengths.{nMost, mMost, placeCount, recordStart, archiveLength}
 use Rattle.archive.specs.Layout.{byteIn}
-use Rattle.sizes.proofs.PlaceLaws.{record-fits}
+use Rattle.sizes.proofs.PlaceLaws.{record-fits, file-low}
 
 -- the data of a place lies in the archive
 pub data-fits : (z : Sizes) {n p k start : ℕ} → p < placeCount z → k ≡ p → start ≡ recordStart z k → n ≡ archiveLength z → start + (z .n - 2) ≤ n
@@ -35,10 +35,6 @@ place-added z s places coefficients d len from t fits is starts before more =
 pub row-fits : (i m len : ℕ) → i < m → i * len + len ≤ m * len
 row-fits i m len h = omega (arith, mul-le-mul-right {m = i + 1} {n = m} len (omega arith))
 
--- the file is short
-pub file-low : (z : Sizes) → Ranged z → fileLength z ≤ 16 * 1022
-file-low z R = mul-le-mul {n₂ = 16} {m₂ = 1022} (R .m-high) (omega (arith, R .n-high))
-
--- so is the start of a row
-pub row-low : (z : Sizes) → sizesOutside z ≡ false → (i : ℕ) → i < z .m → i * (z .n - 2) ≤ 16 * 1022
+-- the start of a row is low
+pub row-low : (z : Sizes) → sizesOutside z ≡ false → (i : ℕ) → i < z .m → i * (z .n - 2) ≤ mMost * nMost
 row-low z sizes i h = omega (arith, row-fits i (z .m) (z .n - 2) h, file-low z (ranged z sizes))

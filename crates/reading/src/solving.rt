@@ -4,18 +4,18 @@ ghost use mathlib.Core.Bool.{false};
 ghost use Prim.Native.Nat.{ℕ, _+_, _-_, _<_, _≤_};
 ghost use lib.ListN.{length};
 ghost use Rattle.lists.specs.Lists.{at, grid};
-ghost use Rattle.field.specs.PrivateTables.{PowerTable, LogTable};
+ghost use Rattle.field.specs.PrivateTables.{FieldTables};
 ghost use Rattle.sizes.specs.Sizes.{sizesOutside};
 ghost use Rattle.vector.specs.Vectors.{mixed, added};
 ghost use Rattle.linear.specs.PrivateElimination.{cells};
 ghost use Rattle.sizes.specs.Lengths.{placeCount, archiveLength, fileLength};
 ghost use Rattle.archive.specs.Layout.{byteIn};
+use field::Tables;
 use sizes::Sizes;
 
 // To the n - 2 bytes from `from` on, the data of m places is added, each times its coefficient.
 fn add_places(
-    powers: &[u8; 510],
-    logs: &[u8; 256],
+    tables: &Tables,
     archive: &[u8],
     z: Sizes,
     places: [u8; 16],
@@ -23,8 +23,7 @@ fn add_places(
     file: &mut [u8],
     from: usize,
 )
-    requires { ⌜ PowerTable (now powers)
-        × LogTable (now logs)
+    requires { ⌜ FieldTables (now tables)
         × (sizesOutside z ≡ false)
         × ((t : ℕ) → t < z .m → at places t < placeCount z)
         × (length (now archive) ≡ archiveLength z)
@@ -37,16 +36,7 @@ fn add_places(
     let len = z.n - 2;
     for t in 0..z.m {
         let start = sizes::record_start(z, lists::widen(places[t]));
-        vector::add_multiple(
-            powers,
-            logs,
-            coefficients[t],
-            archive,
-            start,
-            file,
-            from,
-            len,
-        );
+        vector::add_multiple(tables, coefficients[t], archive, start, file, from, len);
     }
 }
 
@@ -67,22 +57,11 @@ pub fn solve(
         ⌜ now (file .exit)
         ≡ grid (z .m) (z .n - 2) 0 (λ i. mixed (z .m) (cells combinations i) (λ t. byteIn z archive (at places t))) (now (file .entry)) ⌝ }
 {
-    let pair = field::tables();
-    let powers = pair.powers;
-    let logs = pair.logs;
+    let tables = field::tables();
     let len = z.n - 2;
     for i in 0..z.m {
         let coefficients = combinations[i];
         lists::zero(file, i * len, len);
-        add_places(
-            &powers,
-            &logs,
-            archive,
-            z,
-            places,
-            coefficients,
-            file,
-            i * len,
-        );
+        add_places(&tables, archive, z, places, coefficients, file, i * len);
     }
 }

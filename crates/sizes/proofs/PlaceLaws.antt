@@ -1,17 +1,20 @@
--- The numbers of places of sizes in range. Assumes nothing.
-use Prim.Native.Nat.{ℕ, _+_, _/_, _%_, _<_, _≤_}
+-- The numbers of places, and the length of a file, of sizes in range. Assumes nothing.
+use Prim.Native.Nat.{ℕ, _+_, _*_, _/_, _%_, _<_, _≤_}
 use native.Mathlib.Nat.{mul-le-mul, mul-le-mul-right, mod-lt, div-lt-iff-lt-mul}
 use native.Mathlib.Omega.{arith}
 use Rattle.sizes.specs.declared.Sizes.{Sizes}
 use Rattle.sizes.proofs.SizeLaws.{Ranged}
-use Rattle.sizes.specs.Lengths.{placeCount, recordLength, archiveLength, placeNumber, recordStart}
+use Rattle.sizes.specs.Lengths.{nMost, mMost, placesMost, nodesMost, markCount, placeCount, fileLength, recordLength, archiveLength, placeNumber, recordStart}
 
 module _ (z : Sizes) (R : Ranged z) where
   pub number-low : (node place : ℕ) → node < z .nodes → place < z .places → placeNumber z node place < placeCount z
   number-low node place h hp = omega (arith, mul-le-mul-right (z .places) h)
 
-  pub count-low : placeCount z ≤ 48
-  count-low = mul-le-mul {n₂ = 6} {m₂ = 8} (R .nodes-high) (R .places-high)
+  pub count-low : placeCount z ≤ markCount
+  count-low = mul-le-mul {n₂ = nodesMost} {m₂ = placesMost} (R .nodes-high) (R .places-high)
+
+  pub file-low : fileLength z ≤ mMost * nMost
+  file-low = mul-le-mul {n₂ = mMost} {m₂ = nMost} (R .m-high) (omega (arith, R .n-high))
 
   -- the node and the place of a number
   pub node-of : (k : ℕ) → k < placeCount z → k / z .places < z .nodes

@@ -1,32 +1,37 @@
 -- Sizes in range. Assumes nothing.
-use Prim.Native.Nat.{_≤_}
+use Prim.Native.Nat.{ℕ, _≤_}
 use mathlib.Core.Path.{_≡_}
 use mathlib.Core.Bool.{false}
 use Rattle.lists.specs.Lists.{anyOf}
-use Rattle.lists.proofs.AnyLaws.{any-first, any-rest}
+use Rattle.lists.proofs.AnyLaws.{none-at}
 use Rattle.answer.proofs.RefusalLaws.{inside, not-outside}
 use Rattle.sizes.specs.declared.Sizes.{Sizes}
-use Rattle.sizes.specs.Sizes.{sizesOutside}
+use Rattle.sizes.specs.Lengths.{nLeast, nMost, mMost, placesMost, nodesMost}
+use Rattle.sizes.specs.Sizes.{nOutside, mOutside, sizesOutside}
 
 pub record Ranged (z : Sizes) : Type 0 where
-  pub n-low : 3 ≤ z .n
-  pub n-high : z .n ≤ 1024
+  pub n-low : nLeast ≤ z .n
+  pub n-high : z .n ≤ nMost
   pub m-low : 1 ≤ z .m
-  pub m-high : z .m ≤ 16
+  pub m-high : z .m ≤ mMost
   pub places-low : 1 ≤ z .places
-  pub places-high : z .places ≤ 8
+  pub places-high : z .places ≤ placesMost
   pub nodes-low : 1 ≤ z .nodes
-  pub nodes-high : z .nodes ≤ 6
+  pub nodes-high : z .nodes ≤ nodesMost
+
+pub n-range : (n : ℕ) → nOutside n ≡ false → (nLeast ≤ n) × (n ≤ nMost)
+n-range n e = inside nLeast nMost n e
+
+pub m-range : (m : ℕ) → mOutside m ≡ false → (1 ≤ m) × (m ≤ mMost)
+m-range m e = inside 1 mMost m e
 
 pub ranged : (z : Sizes) → sizesOutside z ≡ false → Ranged z
 unfolding sizesOutside
 ranged z e =
-    let n = inside 3 1024 (z .n) (any-first _ _ e) in
-    let e2 = any-rest _ _ e in
-    let m = inside 1 16 (z .m) (any-first _ _ e2) in
-    let e3 = any-rest _ _ e2 in
-    let places = inside 1 8 (z .places) (any-first _ _ e3) in
-    let nodes = inside 1 6 (z .nodes) (any-first _ _ (any-rest _ _ e3)) in
+    let n = n-range (z .n) (none-at _ 0 e) in
+    let m = m-range (z .m) (none-at _ 1 e) in
+    let places = inside 1 placesMost (z .places) (none-at _ 2 e) in
+    let nodes = inside 1 nodesMost (z .nodes) (none-at _ 3 e) in
     record {
       n-low = n .0;
       n-high = n .1;
@@ -42,8 +47,8 @@ pub not-sizes-outside : (z : Sizes) → Ranged z → sizesOutside z ≡ false
 unfolding sizesOutside anyOf
 not-sizes-outside z r =
     rw (
-      not-outside 3 1024 (z .n) (r .n-low) (r .n-high),
-      not-outside 1 16 (z .m) (r .m-low) (r .m-high),
-      not-outside 1 8 (z .places) (r .places-low) (r .places-high),
-      not-outside 1 6 (z .nodes) (r .nodes-low) (r .nodes-high),
+      not-outside nLeast nMost (z .n) (r .n-low) (r .n-high),
+      not-outside 1 mMost (z .m) (r .m-low) (r .m-high),
+      not-outside 1 placesMost (z .places) (r .places-low) (r .places-high),
+      not-outside 1 nodesMost (z .nodes) (r .nodes-low) (r .nodes-high),
     )

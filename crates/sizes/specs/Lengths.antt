@@ -40,6 +40,29 @@ firstMark = 96
 abbrev pub markCount : ℕ
 markCount = 48
 
+-- ---- the ranges of the sizes, from 1 but for n; what the longest record and key vector take, the latter in whole keystream blocks
+
+abbrev pub nLeast : ℕ
+nLeast = 3
+
+abbrev pub nMost : ℕ
+nMost = 1024
+
+abbrev pub mMost : ℕ
+mMost = 16
+
+abbrev pub placesMost : ℕ
+placesMost = 8
+
+abbrev pub nodesMost : ℕ
+nodesMost = 6
+
+abbrev pub recordMost : ℕ
+recordMost = nMost + mMost + 1
+
+abbrev pub vectorMost : ℕ
+vectorMost = 17 * streamBlockLength
+
 -- ---- places and records
 
 abbrev pub placeCount : (z : Sizes) → ℕ

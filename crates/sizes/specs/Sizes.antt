@@ -5,12 +5,13 @@ use mathlib.Core.List.{[], _∷_}
 use Rattle.lists.specs.Lists.{anyOf}
 use Rattle.answer.specs.Refusals.{outside}
 use Rattle.sizes.specs.declared.Sizes.{Sizes}
+use Rattle.sizes.specs.Lengths.{nLeast, nMost, mMost, placesMost, nodesMost}
 
 abbrev pub nOutside : (n : ℕ) → Bool
-nOutside n = outside 3 1024 n
+nOutside n = outside nLeast nMost n
 
 abbrev pub mOutside : (m : ℕ) → Bool
-mOutside m = outside 1 16 m
+mOutside m = outside 1 mMost m
 
 unfoldable pub sizesOutside : (z : Sizes) → Bool
-sizesOutside z = anyOf (nOutside (z .n) ∷ mOutside (z .m) ∷ outside 1 8 (z .places) ∷ outside 1 6 (z .nodes) ∷ [])
+sizesOutside z = anyOf (nOutside (z .n) ∷ mOutside (z .m) ∷ outside 1 placesMost (z .places) ∷ outside 1 nodesMost (z .nodes) ∷ [])

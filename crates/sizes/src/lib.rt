@@ -2,8 +2,8 @@
 ghost use mathlib.Core.Path.{_≡_};
 ghost use mathlib.Core.Bool.{false};
 ghost use Prim.Native.Nat.{_<_, _≤_};
-ghost use Rattle.sizes.specs.Sizes.{sizesOutside};
-ghost use Rattle.sizes.specs.Lengths.{recordLength, archiveLength, recordStart};
+ghost use Rattle.sizes.specs.Sizes.{nOutside, mOutside, sizesOutside};
+ghost use Rattle.sizes.specs.Lengths.{recordLength, archiveLength, recordStart, markCount, recordMost};
 
 // The lengths and offsets of specs/Lengths.antt that no size changes, under the same names.
 pub const KEY_LENGTH: usize = 32;
@@ -35,6 +35,22 @@ pub const TAG_PAST_N: usize = 13;
 
 pub const RESPONSE_PAST_N: usize = 14;
 
+// The ranges of the sizes, from 1 but for n.
+pub const N_LEAST: usize = 3;
+
+pub const N_MOST: usize = 1024;
+
+pub const M_MOST: usize = 16;
+
+pub const PLACES_MOST: usize = 8;
+
+pub const NODES_MOST: usize = 6;
+
+// The longest record, and the longest key vector in whole keystream blocks.
+pub const RECORD_MOST: usize = 1041;
+
+pub const VECTOR_MOST: usize = 1088;
+
 // n, m, the places of a node and the nodes. The scheme: n, m, M (places a box), N (boxes).
 pub struct Sizes {
     pub n: usize,
@@ -43,20 +59,34 @@ pub struct Sizes {
     pub nodes: usize,
 }
 
+// Whether n is outside its range.
+pub fn n_outside(n: usize) -> bool
+    ensures { λ r. ⌜ r ≡ nOutside n ⌝ }
+{
+    answer::outside(N_LEAST, N_MOST, n)
+}
+
+// Whether m is outside its range.
+pub fn m_outside(m: usize) -> bool
+    ensures { λ r. ⌜ r ≡ mOutside m ⌝ }
+{
+    answer::outside(1, M_MOST, m)
+}
+
 // Whether a size is outside its range.
 pub fn sizes_outside(z: Sizes) -> bool
     ensures { λ r. ⌜ r ≡ sizesOutside z ⌝ }
 {
-    answer::outside(3, 1024, z.n)
-        | answer::outside(1, 16, z.m)
-        | answer::outside(1, 8, z.places)
-        | answer::outside(1, 6, z.nodes)
+    n_outside(z.n)
+        | m_outside(z.m)
+        | answer::outside(1, PLACES_MOST, z.places)
+        | answer::outside(1, NODES_MOST, z.nodes)
 }
 
 // The bytes of a record: block, then tag.
 pub fn record_length(z: Sizes) -> usize
     requires { ⌜ sizesOutside z ≡ false ⌝ }
-    ensures { λ r. ⌜ (r ≡ recordLength z) × (r ≤ 1041) ⌝ }
+    ensures { λ r. ⌜ (r ≡ recordLength z) × (r ≤ recordMost) ⌝ }
 {
     z.n + z.m + 1
 }
@@ -71,7 +101,7 @@ pub fn archive_length(z: Sizes) -> usize
 
 // Where the record of place number k starts.
 pub fn record_start(z: Sizes, k: usize) -> usize
-    requires { ⌜ (sizesOutside z ≡ false) × (k < 48) ⌝ }
+    requires { ⌜ (sizesOutside z ≡ false) × (k < markCount) ⌝ }
     ensures { λ r. ⌜ r ≡ recordStart z k ⌝ }
 {
     HEADER_LENGTH + k * record_length(z)

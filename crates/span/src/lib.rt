@@ -16,6 +16,7 @@ ghost use Rattle.archive.specs.Open.{openAnswer, openOut};
 ghost use Rattle.archive.specs.Calls as Calls;
 ghost use Rattle.archive.specs.Calls.{archiveAnswer, archiveAfter, scratchAfter};
 ghost use Rattle.archive.specs.Prove.{proveAnswer, proveOut};
+ghost use Rattle.answer.specs.declared.Counted.{Counted};
 ghost use Rattle.answer.specs.Counted.{countedNumber, countedValue, CountedAnswer};
 ghost use Rattle.archive.specs.Inventory.{InventoryAllows};
 ghost use Rattle.archive.specs.Read.{ReadAllows};
@@ -297,7 +298,8 @@ fn tell(answer: Counted, value: &mut u8) -> u8
 pub extern "C" fn span_inventory(archive: &[u8], list: &mut [u8], count: &mut u8) -> u8
     ensures { λ r.
         let archive = now (archive .entry) in
-        ⌜ CountedAnswer (λ answer. InventoryAllows archive (now (list .entry)) answer (now (list .exit))) r (now (count .entry)) (now (count .exit)) ⌝ }
+        let allows : Counted → Type 0 = λ answer. InventoryAllows archive (now (list .entry)) answer (now (list .exit)) in
+        ⌜ CountedAnswer allows r (now (count .entry)) (now (count .exit)) ⌝ }
 {
     tell(archive::inventory(archive, list), count)
 }
@@ -306,7 +308,8 @@ pub extern "C" fn span_inventory(archive: &[u8], list: &mut [u8], count: &mut u8
 pub extern "C" fn span_read(archive: &[u8], file: &mut [u8], consulted: &mut u8) -> u8
     ensures { λ r.
         let archive = now (archive .entry) in
-        ⌜ CountedAnswer (λ answer. ReadAllows archive (now (file .entry)) answer (now (file .exit))) r (now (consulted .entry)) (now (consulted .exit)) ⌝ }
+        let allows : Counted → Type 0 = λ answer. ReadAllows archive (now (file .entry)) answer (now (file .exit)) in
+        ⌜ CountedAnswer allows r (now (consulted .entry)) (now (consulted .exit)) ⌝ }
 {
     tell(reading::read(archive, file), consulted)
 }

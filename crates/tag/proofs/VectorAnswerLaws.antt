@@ -5,7 +5,7 @@ use mathlib.Core.List.{List}
 use lib.ListN.{length}
 use Rattle.lists.specs.Lists.{tab}
 use Rattle.lists.proofs.TabLaws.{tab-same}
-use Rattle.lists.proofs.AnyLaws.{any-first, any-rest}
+use Rattle.lists.proofs.AnyLaws.{none-at}
 use Rattle.answer.specs.declared.Outcome.{Outcome}
 use Rattle.answer.specs.declared.Outcome.the-variants.{Done}
 use Rattle.answer.proofs.RefusalLaws.{accepted, same}
@@ -20,7 +20,7 @@ module _ (key id : List ℕ) (n m : ℕ) (out : List ℕ) {o : Outcome} (answer 
   unfolding vectorAnswer
   vector-lengths e =
       let t = accepted _ _ _ (accepted _ _ _ (sym answer ∙ e) .1) .0 in
-      (same _ _ (any-first _ _ t), same _ _ (any-first _ _ (any-rest _ _ t)), same _ _ (any-first _ _ (any-rest _ _ (any-rest _ _ t))))
+      (same _ _ (none-at _ 0 t), same _ _ (none-at _ 1 t), same _ _ (none-at _ 2 t))
 
   pub vector-drawn : o ≡ Done → {made : List ℕ} (s : Stream) → GivesKeyVector key id s → made ≡ tab (length out) (λ i. drawn (after i s) .byte)
       → made ≡ tab (n + m) (keyVector key id)

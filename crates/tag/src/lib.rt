@@ -4,8 +4,8 @@ ghost use mathlib.Core.List.{_∷_};
 ghost use Prim.Native.Nat.{_+_, _*_, _≤_};
 ghost use lib.ListN.{length};
 ghost use Rattle.lists.specs.Lists.{at, tab, put};
-ghost use Rattle.sizes.specs.Lengths.{keyLength, idLength};
-ghost use Rattle.field.specs.PrivateTables.{PowerTable, LogTable};
+ghost use Rattle.sizes.specs.Lengths.{keyLength, idLength, streamBlockLength};
+ghost use Rattle.field.specs.PrivateTables.{FieldTables};
 ghost use Rattle.keystream.specs.PrivateStream.{drawn, after};
 ghost use Rattle.vector.specs.Vectors.{product};
 ghost use Rattle.tag.specs.KeyVector.{keyVector, TagsCombine};
@@ -13,23 +13,26 @@ ghost use Rattle.tag.specs.PrivateKeyStream.{GivesKeyVector};
 ghost use Rattle.tag.specs.Vector.{vectorAnswer, vectorOut};
 use answer::Outcome;
 use answer::Refusal;
+use field::Tables;
+use keystream::Key;
+use keystream::Nonce;
 use keystream::Stream;
 
 // A key by value.
-pub fn key_array(s: &[u8]) -> [u8; 32]
-    requires { ⌜ length (now s) ≡ 32 ⌝ }
+pub fn key_array(s: &[u8]) -> Key
+    requires { ⌜ length (now s) ≡ keyLength ⌝ }
     ensures { λ r. ⌜ r ≡ now (s .entry) ⌝ }
 {
-    let mut out = [0u8; 32];
-    for i in 0..32 {
+    let mut out = [0u8; sizes::KEY_LENGTH];
+    for i in 0..sizes::KEY_LENGTH {
         out[i] = s[i];
     }
     out
 }
 
 // The nonce that starts with four bytes and ends with an id.
-pub fn id_nonce(a: u8, b: u8, c: u8, d: u8, id: &[u8]) -> [u8; 12]
-    requires { ⌜ length (now id) ≡ 8 ⌝ }
+pub fn id_nonce(a: u8, b: u8, c: u8, d: u8, id: &[u8]) -> Nonce
+    requires { ⌜ length (now id) ≡ idLength ⌝ }
     ensures { λ r. ⌜ r ≡ a ∷ b ∷ c ∷ d ∷ now (id .entry) ⌝ }
 {
     [
@@ -60,32 +63,25 @@ pub fn key_stream(tag_key: &[u8], id: &[u8]) -> Stream
 pub fn key_vector_into(tag_key: &[u8], id: &[u8], out: &mut [u8], count: usize)
     requires { ⌜ (length (now «tag_key») ≡ keyLength)
         × (length (now id) ≡ idLength)
-        × (64 * count ≤ length (now out)) ⌝ }
+        × (streamBlockLength * count ≤ length (now out)) ⌝ }
     ensures { λ _.
         let tagKey = now («tag_key» .entry) in
         let id = now (id .entry) in
-        ⌜ now (out .exit) ≡ put (64 * count) 0 (keyVector tagKey id) (now (out .entry)) ⌝ }
+        ⌜ now (out .exit) ≡ put (streamBlockLength * count) 0 (keyVector tagKey id) (now (out .entry)) ⌝ }
 {
     keystream::fill(key_array(tag_key), id_nonce(1, 0, 0, 0, id), out, count);
 }
 
 // The product of len bytes, from `first` on, and as many bytes of a stream.
-pub fn product_drawn(
-    powers: &[u8; 510],
-    logs: &[u8; 256],
-    u: &[u8],
-    first: usize,
-    len: usize,
-    s: Stream,
-) -> u8
-    requires { ⌜ PowerTable (now powers) × LogTable (now logs) × (first + len ≤ length (now u)) ⌝ }
+pub fn product_drawn(tables: &Tables, u: &[u8], first: usize, len: usize, s: Stream) -> u8
+    requires { ⌜ FieldTables (now tables) × (first + len ≤ length (now u)) ⌝ }
     ensures { λ r. ⌜ r ≡ product len (λ e. at (now (u .entry)) (first + e)) (λ e. drawn (after e s) .byte) ⌝ }
 {
     let mut total = 0u8;
     let mut t = s;
     for e in 0..len {
         let d = t.next();
-        total = total ^ field::product(powers, logs, u[first + e], d.byte);
+        total = total ^ field::product(tables, u[first + e], d.byte);
         let next = d.stream;
         t = next;
     }
@@ -109,7 +105,7 @@ pub fn draw_into(s: Stream, out: &mut [u8])
 fn vector_check(tag_key: &[u8], id: &[u8], n: usize, m: usize, out: &[u8]) -> Outcome
     ensures { λ r. ⌜ r ≡ vectorAnswer (now («tag_key» .entry)) (now (id .entry)) n m (now (out .entry)) ⌝ }
 {
-    if answer::outside(3, 1024, n) | answer::outside(1, 16, m) {
+    if sizes::n_outside(n) | sizes::m_outside(m) {
         return Outcome::Refused(Refusal::Size);
     }
     if (tag_key.len() != sizes::KEY_LENGTH)

@@ -4,25 +4,25 @@ ghost use Prim.Native.Nat.{_+_, _-_, _*_, _<_, _≤_};
 ghost use lib.ListN.{length};
 ghost use Rattle.lists.specs.Lists.{at};
 ghost use Rattle.field.specs.Field.{times, power};
-ghost use Rattle.field.specs.PrivateTables.{PowerTable, LogTable};
+ghost use Rattle.field.specs.PrivateTables.{FieldTables};
 ghost use Rattle.vector.specs.Vectors.{product, mixed, added};
+use field::Tables;
 
 // The product of the first len bytes of two vectors.
-pub fn product_of(powers: &[u8; 510], logs: &[u8; 256], u: &[u8], v: &[u8], len: usize) -> u8
-    requires { ⌜ PowerTable (now powers) × LogTable (now logs) × (len ≤ length (now u)) × (len ≤ length (now v)) ⌝ }
+pub fn product_of(tables: &Tables, u: &[u8], v: &[u8], len: usize) -> u8
+    requires { ⌜ FieldTables (now tables) × (len ≤ length (now u)) × (len ≤ length (now v)) ⌝ }
     ensures { λ r. ⌜ r ≡ product len (at (now (u .entry))) (at (now (v .entry))) ⌝ }
 {
     let mut total = 0u8;
     for e in 0..len {
-        total = total ^ field::product(powers, logs, u[e], v[e]);
+        total = total ^ field::product(tables, u[e], v[e]);
     }
     total
 }
 
 // 03 to the k times len bytes, from `first` on, added to those of out from `from` on.
 fn add_raised(
-    powers: &[u8; 510],
-    logs: &[u8; 256],
+    tables: &Tables,
     k: usize,
     u: &[u8],
     first: usize,
@@ -30,8 +30,7 @@ fn add_raised(
     from: usize,
     len: usize,
 )
-    requires { ⌜ PowerTable (now powers)
-        × LogTable (now logs)
+    requires { ⌜ FieldTables (now tables)
         × (k < 255)
         × (first + len ≤ length (now u))
         × (from + len ≤ length (now out)) ⌝ }
@@ -40,14 +39,13 @@ fn add_raised(
         ⌜ now (out .exit) ≡ added len from (λ e. times (power 3 k) (at u (first + e))) (now (out .entry)) ⌝ }
 {
     for e in 0..len {
-        out[from + e] = out[from + e] ^ field::raised(powers, logs, k, u[first + e]);
+        out[from + e] = out[from + e] ^ field::raised(tables, k, u[first + e]);
     }
 }
 
 // c times len bytes, from `first` on, added to those of out from `from` on.
 pub fn add_multiple(
-    powers: &[u8; 510],
-    logs: &[u8; 256],
+    tables: &Tables,
     c: u8,
     u: &[u8],
     first: usize,
@@ -55,8 +53,7 @@ pub fn add_multiple(
     from: usize,
     len: usize,
 )
-    requires { ⌜ PowerTable (now powers)
-        × LogTable (now logs)
+    requires { ⌜ FieldTables (now tables)
         × (first + len ≤ length (now u))
         × (from + len ≤ length (now out)) ⌝ }
     ensures { λ _.
@@ -64,15 +61,14 @@ pub fn add_multiple(
         ⌜ now (out .exit) ≡ added len from (λ e. times c (at u (first + e))) (now (out .entry)) ⌝ }
 {
     if c != 0 {
-        add_raised(powers, logs, field::log(logs, c), u, first, out, from, len);
+        add_raised(tables, field::log(tables, c), u, first, out, from, len);
     }
 }
 
 // The combination of `count` vectors of len bytes, which stand one after another in u from `start` on, added to the bytes of out from
 // `from` on. The i-th coefficient stands in c at `first` plus i steps.
 pub fn combine(
-    powers: &[u8; 510],
-    logs: &[u8; 256],
+    tables: &Tables,
     count: usize,
     c: &[u8],
     first: usize,
@@ -83,8 +79,7 @@ pub fn combine(
     from: usize,
     len: usize,
 )
-    requires { ⌜ PowerTable (now powers)
-        × LogTable (now logs)
+    requires { ⌜ FieldTables (now tables)
         × (0 < count → first + (count - 1) * step < length (now c))
         × (start + count * len ≤ length (now u))
         × (from + len ≤ length (now out)) ⌝ }
@@ -96,8 +91,7 @@ pub fn combine(
 {
     for i in 0..count {
         add_multiple(
-            powers,
-            logs,
+            tables,
             c[first + i * step],
             u,
             start + i * len,

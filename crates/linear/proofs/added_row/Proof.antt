@@ -10,10 +10,10 @@ use Rattle.linear.proofs.added_row.Statement.{statement}
 use Rattle.linear.proofs.added_row.Tie as tie
 
 abbrev Inv-loop : tie.InvT-loop
-Inv-loop powers logs c v w out₀ j₀ out j = (length out ≡ 16) × (j ≤ 16) × ((q : ℕ) → q < j → at out q ≡ plus (at v q) (times c (at w q)))
+Inv-loop tables c v w out₀ j₀ out j = (length out ≡ 16) × (j ≤ 16) × ((q : ℕ) → q < j → at out q ≡ plus (at v q) (times c (at w q)))
 
 abbrev μ-loop : tie.MeasureT-loop
-μ-loop powers logs c v w out₀ j₀ out j = 16 - j
+μ-loop tables c v w out₀ j₀ out j = 16 - j
 
 loop-holds : tie.Need-loop-holds Inv-loop μ-loop
 loop-holds c = (search needs, omega arith, λ q l. absurd (omega arith))
@@ -42,7 +42,7 @@ loop-again c =
     let l = c .before .before .loop in (
       search needs,
       omega arith,
-      stored 0 (l .out) (l .j) _ (λ q x. x ≡ plus (at (s .t3) q) (times (s .c) (at (s .t4) q))) (omega arith) (l .inv .2) (ap (plus (at (s .t3) (l .j))) (c .product .ensures)),
+      stored 0 (l .out) (l .j) _ (λ q x. x ≡ plus (at (s .t2) q) (times (s .c) (at (s .t3) q))) (omega arith) (l .inv .2) (ap (plus (at (s .t2) (l .j))) (c .product .ensures)),
     )
 
 returns : tie.Need-returns Inv-loop μ-loop

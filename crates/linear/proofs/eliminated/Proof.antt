@@ -1,5 +1,5 @@
 use mathlib.Core.Path.{_≡_, refl, sym, _∙_, ap}
-use Prim.Native.Nat.{ℕ, _≤_, _-_}
+use Prim.Native.Nat.{_≤_, _-_}
 use native.Mathlib.Omega.{arith}
 use borrow.Author.Needs.{needs}
 use borrow.Author.Count.{below-more}
@@ -11,22 +11,22 @@ use Rattle.linear.proofs.eliminated.Statement.{statement}
 use Rattle.linear.proofs.eliminated.Tie as tie
 
 abbrev Inv-search : tie.InvT-search
-Inv-search powers logs k m rank e t top col₀ r₀ col r = (top ≤ r) × (col ≡ col₀) × Passed (cells e) col₀ top r
+Inv-search tables k m rank e t top col₀ r₀ col r = (top ≤ r) × (col ≡ col₀) × Passed (cells e) col₀ top r
 
 abbrev μ-search : tie.MeasureT-search
-μ-search powers logs k m rank e t top col₀ r₀ col r = k - r
+μ-search tables k m rank e t top col₀ r₀ col r = k - r
 
 abbrev Inv-rows : tie.InvT-rows
-Inv-rows powers logs k m rank e₀ t₀ top col r q c i₀ e t i = (i ≤ k) × (k ≤ 16) × Clearing e₀ e₀ top col e i × Clearing t₀ e₀ top col t i
+Inv-rows tables k m rank e₀ t₀ top col r q c i₀ e t i = (i ≤ k) × (k ≤ 16) × Clearing e₀ e₀ top col e i × Clearing t₀ e₀ top col t i
 
 abbrev μ-rows : tie.MeasureT-rows
-μ-rows powers logs k m rank e₀ t₀ top col r q c i₀ e t i = k - i
+μ-rows tables k m rank e₀ t₀ top col r q c i₀ e t i = k - i
 
 abbrev Inv-columns : tie.InvT-columns
-Inv-columns powers logs k m rank e₀ t₀ top₀ col₀ e t top col = Head k m (cells e₀) (cells e) (cells t) top col
+Inv-columns tables k m rank e₀ t₀ top₀ col₀ e t top col = Head k m (cells e₀) (cells e) (cells t) top col
 
 abbrev μ-columns : tie.MeasureT-columns
-μ-columns powers logs k m rank e₀ t₀ top₀ col₀ e t top col = m - col
+μ-columns tables k m rank e₀ t₀ top₀ col₀ e t top col = m - col
 
 unit-requires : tie.Need-unit-requires Inv-search μ-search Inv-rows μ-rows Inv-columns μ-columns
 unit-requires c κs = search needs
@@ -217,7 +217,7 @@ columns-again-2 c =
     let s = found .before .search in
     let h = found .before .before .before .columns in
     let b = found .before .before .before .before .before in
-    head-step (b .args .k) (b .args .m) (cells (b .args .a)) (cell-bytes (b .args .a) (b .good .1 .1 .0 .0) (b .good .1 .1 .0 .1 .1)) (omega arith) (omega arith)
+    head-step (b .args .k) (b .args .m) (cells (b .args .a)) (cell-bytes (b .args .a) (b .good .1 .0 .0) (b .good .1 .0 .1 .1)) (omega arith) (omega arith)
     (h .e) (h .t) (swapped-e .swapped .result) (swapped-t .swapped2 .result) (scaled-e .scaled .result) (scaled-t .scaled2 .result)
     (l .e) (l .t) (h .top) (s .col) (s .r) (inverse .inverse-of .result)
     (head-at (s .inv .1) (h .inv)) (omega arith) (s .inv .0) (omega arith) (inverse .inverse-of .ensures)
@@ -227,7 +227,7 @@ columns-again-2 c =
 returns : tie.Need-returns Inv-search μ-search Inv-rows μ-rows Inv-columns μ-columns
 returns c =
     let s = c .before .before .before in
-    head-end _ _ _ _ _ _ _ (cell-bytes (s .args .a) (s .good .1 .1 .0 .0) (s .good .1 .1 .0 .1 .1)) (c .before .columns .inv) (omega arith)
+    head-end _ _ _ _ _ _ _ (cell-bytes (s .args .a) (s .good .1 .0 .0) (s .good .1 .0 .1 .1)) (c .before .columns .inv) (omega arith)
 
 pub eliminated-spec : {M : Type 1} → statement M
 eliminated-spec =

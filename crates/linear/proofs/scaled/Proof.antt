@@ -16,7 +16,7 @@ to-zero x j l = ap (λ (z : ℕ). plus z x) (getD-replicate 16 j 0 0 l) ∙ xor-
 returns : tie.Need-returns
 returns c =
     let s = c .before .before .args in
-    scales (s .t3) (s .r) (s .c) (c .added-row .result) (search needs) (search needs) (λ j l. c .added-row .ensures j l ∙ to-zero _ j l)
+    scales (s .t2) (s .r) (s .c) (c .added-row .result) (search needs) (search needs) (λ j l. c .added-row .ensures j l ∙ to-zero _ j l)
 
 pub scaled-spec : {M : Type 1} → statement M
 scaled-spec =

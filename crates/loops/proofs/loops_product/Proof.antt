@@ -8,8 +8,8 @@ use Rattle.loops.proofs.loops_product.Tie as tie
 
 returns : tie.Need-returns
 returns c =
-    let a = c .before .before .before .before .before .before .before .before .before .args in
-    c .product-of .ensures ∙ ap (λ (n : ℕ). product n (at (a .a .now)) (at (a .b .now))) (c .before .before .before .shorter .ensures)
+    let a = c .before .before .before .before .before .before .args in
+    c .product-of .ensures ∙ ap (λ (n : ℕ). product n (at (a .a .now)) (at (a .b .now))) (c .before .before .shorter .ensures)
 
 pub loops-product-spec : {M : Type 1} → statement M
 loops-product-spec =

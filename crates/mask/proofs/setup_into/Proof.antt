@@ -5,8 +5,8 @@ use Rattle.mask.proofs.setup_into.Tie as tie
 
 returns : tie.Need-returns
 returns c =
-    let v = c .before .before .before .before .before .before .before .before .before in
-    let high = v .before .before .before .before .before .before .before .before .before .pre .1 in
+    let v = c .before .before .before .before .before .before .before .before in
+    let high = v .before .before .before .before .before .before .before .pre .1 in
     auxiliary-of _ _ _ _ _ (c .before .before .before .before .before .key-array .ensures) (search needs) (v .key-vector-into .ensures) high
     (c .before .before .auxiliary-into .ensures)
 

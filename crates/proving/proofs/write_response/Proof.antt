@@ -11,39 +11,39 @@ use Rattle.proving.proofs.write_response.Tie as tie
 
 sizes-in-requires : tie.Need-sizes-in-requires
 sizes-in-requires c κs =
-    let b = c .before .before .before .before .before .before .before .before .before in
+    let b = c .before .before .before .before .before .before .before in
     omega (arith, good-length _ (provable _ _ _ _ _ _ (b .pre) .good))
 
 named-record-requires : tie.Need-named-record-requires
 named-record-requires c κs =
-    let t = c .before .before .before .before .before in
+    let t = c .before .before in
     let b = t .before .before .before .before .before .before .before in
     let P = provable _ _ _ _ _ _ (b .pre) in
-    (t .tables .ensures .0, t .tables .ensures .1, P .good, P .formed, P .there)
+    (t .tables .ensures, P .good, P .formed, P .there)
 
 node-in-requires : tie.Need-node-in-requires
 node-in-requires c κs =
-    let t = c .before .before .before .before .before .before in
+    let t = c .before .before .before in
     let b = t .before .before .before .before .before .before .before in
     provable _ _ _ _ _ _ (b .pre) .formed
 
 key-array-requires : tie.Need-key-array-requires
 key-array-requires c κs =
-    let t = c .before .before .before .before .before .before .before in
+    let t = c .before .before .before .before in
     let b = t .before .before .before .before .before .before .before in
     provable _ _ _ _ _ _ (b .pre) .key-length
 
 id-in-requires : tie.Need-id-in-requires
 id-in-requires c κs =
-    let t = c .before .before .before .before .before .before .before .before in
+    let t = c .before .before .before .before .before in
     let b = t .before .before .before .before .before .before .before in
     omega (arith, good-length _ (provable _ _ _ _ _ _ (b .pre) .good))
 
 write-parts-requires : tie.Need-write-parts-requires
 write-parts-requires c κs =
     let node = c .before .before .before .before .before in
-    let z = node .before .before .before .before in
-    let b = z .before .before .before .before .before .before .before .before .before .before in
+    let z = node .before .before .before in
+    let b = z .before .before .before .before .before .before .before .before in
     let P = provable _ _ _ _ _ _ (b .pre) in
     let R = read-sizes _ (z .sizes-in .ensures) (P .good) in
     let n : z .sizes-in .result .n ≡ _ = ap (λ (x : Sizes). x .n) (z .sizes-in .ensures) in (
@@ -63,8 +63,8 @@ returns c =
     let id = c .before .before .before .before .before .before in
     let key = id .before in
     let named = key .before .before in
-    let z = named .before .before .before in
-    let b = z .before .before .before .before .before .before .before .before .before .before in
+    let z = named .before .before in
+    let b = z .before .before .before .before .before .before .before .before in
     proved-is _ _ _ _ _ (named .named-record .result) (provable _ _ _ _ _ _ (b .pre) .good) (z .sizes-in .ensures) (key .before .node-in .ensures .0)
     (key .key-array .ensures) (id .id-in .ensures) (named .named-record .ensures) (c .before .before .write-parts .ensures)
 

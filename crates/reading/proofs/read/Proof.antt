@@ -6,40 +6,29 @@ use Rattle.answer.proofs.RefusalLaws.{refused, passed, differs-other}
 use Rattle.sizes.specs.Lengths.{fileLength}
 use Rattle.archive.proofs.GoodArchiveLaws.{good-length}
 use Rattle.archive.proofs.CallLaws.{read-sizes}
-use Rattle.reading.proofs.SolvingLaws.{file-low}
+use Rattle.sizes.proofs.PlaceLaws.{file-low}
 use Rattle.reading.proofs.read.Statement.{statement}
 use Rattle.reading.proofs.read.Tie as tie
 
 returns : tie.Need-returns
-returns c = (refl, inl (refused _ _ (sym (c .before .bad-archive .ensures) ∙ c .if1 .taken)))
+returns c = (refl, inl (refused _ _ (cc)))
 
 sizes-in-requires : tie.Need-sizes-in-requires
 sizes-in-requires c κs = omega (arith, good-length _ (sym (c .before .bad-archive .ensures) ∙ c .if1 .left))
 
 sub-if2 : tie.Need-sub-if2
-sub-if2 c =
-    let b = c .before .before in
-    omega (arith, read-sizes _ (c .before .sizes-in .ensures) (sym (b .before .bad-archive .ensures) ∙ b .if1 .left))
+sub-if2 c = omega (arith, read-sizes _ (c .before .sizes-in .ensures) (cc))
 
 mul-if2 : tie.Need-mul-if2
-mul-if2 c =
-    let b = c .before .before .before in
-    omega (arith, file-low _ (read-sizes _ (c .before .before .sizes-in .ensures) (sym (b .before .bad-archive .ensures) ∙ b .if1 .left)))
+mul-if2 c = omega (arith, file-low _ (read-sizes _ (c .before .before .sizes-in .ensures) (cc)))
 
 returns-2 : tie.Need-returns-2
 returns-2 c =
-    let z = c .before .before .before in
-    let b = z .before in (
-      refl,
-      inl (passed _ _ (sym (b .before .bad-archive .ensures) ∙ b .if1 .left)
-          ∙ refused _ _ (differs-other (λ e. c .if2 .taken (e ∙ sym (ap fileLength (z .sizes-in .ensures)))))),
-    )
+    let length-read = ap fileLength (c .before .before .before .sizes-in .ensures) in
+    (refl, inl (passed _ _ (cc) ∙ refused _ _ (differs-other (λ e. c .if2 .taken (e ∙ sym length-read)))))
 
 read-file-requires : tie.Need-read-file-requires
-read-file-requires c κs =
-    let z = c .before .before .before .before in
-    let b = z .before in
-    (sym (b .before .bad-archive .ensures) ∙ b .if1 .left, c .before .if2 .left ∙ ap fileLength (z .sizes-in .ensures))
+read-file-requires c κs = (cc, c .before .if2 .left ∙ ap fileLength (c .before .before .before .before .sizes-in .ensures))
 
 pub read-spec : {M : Type 1} → statement M
 read-spec =

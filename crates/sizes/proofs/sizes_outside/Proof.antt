@@ -1,7 +1,7 @@
 use borrow.Author.Needs.{needs}
 use mathlib.Core.Path.{ap₂, _∙_}
 use mathlib.Core.Bool.{_||_}
-use Rattle.lists.proofs.AnyLaws.{any-four}
+use Rattle.lists.proofs.AnyLaws.{any-of}
 use Rattle.sizes.specs.Sizes.{sizesOutside}
 use Rattle.sizes.proofs.sizes_outside.Statement.{statement}
 use Rattle.sizes.proofs.sizes_outside.Tie as tie
@@ -10,8 +10,8 @@ returns : tie.Need-returns
 unfolding sizesOutside
 returns c =
     let b = c .before in
-    ap₂ _||_ (ap₂ _||_ (ap₂ _||_ (b .before .before .outside .ensures) (b .before .outside2 .ensures)) (b .outside3 .ensures)) (c .outside4 .ensures)
-    ∙ any-four _ _ _ _
+    ap₂ _||_ (ap₂ _||_ (ap₂ _||_ (b .before .before .n-outside .ensures) (b .before .m-outside .ensures)) (b .outside .ensures)) (c .outside2 .ensures)
+    ∙ any-of _ _
 
 pub sizes-outside-spec : {M : Type 1} → statement M
 sizes-outside-spec =

@@ -12,11 +12,11 @@ use Rattle.tag.proofs.product_drawn.Statement.{statement}
 use Rattle.tag.proofs.product_drawn.Tie as tie
 
 abbrev Inv-loop : tie.InvT-loop
-Inv-loop powers logs u first len total₀ t₀ e₀ total t e =
+Inv-loop tables u first len total₀ t₀ e₀ total t e =
     (e ≤ len) × (total ≡ product e (λ i. at u (first + i)) (λ i. drawn (after i t₀) .byte)) × (t ≡ after e t₀)
 
 abbrev μ-loop : tie.MeasureT-loop
-μ-loop powers logs u first len total₀ t₀ e₀ total t e = len - e
+μ-loop tables u first len total₀ t₀ e₀ total t e = len - e
 
 loop-holds : tie.Need-loop-holds Inv-loop μ-loop
 unfolding product

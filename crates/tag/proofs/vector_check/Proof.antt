@@ -1,40 +1,29 @@
 use borrow.Author.Needs.{needs}
-use mathlib.Core.Path.{sym, ap₂, _∙_}
-use mathlib.Core.Bool.{_||_}
+use mathlib.Core.Path.{sym, _∙_}
 use native.Mathlib.Omega.{arith}
-use Rattle.lists.proofs.AnyLaws.{or-false, any-two, any-three}
-use Rattle.answer.proofs.RefusalLaws.{refused, passed, inside}
+use Rattle.lists.proofs.AnyLaws.{or-false}
+use Rattle.answer.proofs.RefusalLaws.{refused, passed, listed}
+use Rattle.sizes.proofs.SizeLaws.{n-range, m-range}
 use Rattle.tag.specs.Vector.{vectorAnswer}
 use Rattle.tag.proofs.vector_check.Statement.{statement}
 use Rattle.tag.proofs.vector_check.Tie as tie
 
 returns : tie.Need-returns
 unfolding vectorAnswer
-returns c =
-    sym (refused _ _ (sym (any-two _ _) ∙ ap₂ _||_ (sym (c .before .before .outside .ensures)) (sym (c .before .outside2 .ensures)) ∙ c .if1 .taken))
+returns c = sym (refused _ _ (listed _ _ (cc)))
 
 add-if2 : tie.Need-add-if2
 add-if2 c =
     let w = or-false _ _ (c .if1 .left) in
-    let n = inside 3 1024 _ (sym (c .before .before .outside .ensures) ∙ w .0) in
-    let m = inside 1 16 _ (sym (c .before .outside2 .ensures) ∙ w .1) in
-    omega (arith, n .1, m .1)
+    omega (arith, n-range _ (sym (c .before .before .n-outside .ensures) ∙ w .0), m-range _ (sym (c .before .m-outside .ensures) ∙ w .1))
 
 returns-2 : tie.Need-returns-2
 unfolding vectorAnswer
-returns-2 c =
-    let b = c .before in
-    sym (
-    passed _ _ (sym (any-two _ _) ∙ ap₂ _||_ (sym (b .before .before .outside .ensures)) (sym (b .before .outside2 .ensures)) ∙ b .if1 .left)
-    ∙ refused _ _ (sym (any-three _ _ _) ∙ c .if2 .taken))
+returns-2 c = sym (passed _ _ (listed _ _ (cc)) ∙ refused _ _ (listed _ _ (cc)))
 
 returns-3 : tie.Need-returns-3
 unfolding vectorAnswer
-returns-3 c =
-    let b = c .before in
-    sym (
-    passed _ _ (sym (any-two _ _) ∙ ap₂ _||_ (sym (b .before .before .outside .ensures)) (sym (b .before .outside2 .ensures)) ∙ b .if1 .left)
-    ∙ passed _ _ (sym (any-three _ _ _) ∙ c .if2 .left))
+returns-3 c = sym (passed _ _ (listed _ _ (cc)) ∙ passed _ _ (listed _ _ (cc)))
 
 pub vector-check-spec : {M : Type 1} → statement M
 vector-check-spec =

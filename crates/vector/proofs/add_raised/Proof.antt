@@ -11,11 +11,11 @@ use Rattle.vector.proofs.add_raised.Statement.{statement}
 use Rattle.vector.proofs.add_raised.Tie as tie
 
 abbrev Inv-loop : tie.InvT-loop
-Inv-loop powers logs k u first out₀ from len e₀ out e =
+Inv-loop tables k u first out₀ from len e₀ out e =
     (e ≤ len) × (length out ≡ length out₀) × (out ≡ added e from (λ i. times (power 3 k) (at u (first + i))) out₀)
 
 abbrev μ-loop : tie.MeasureT-loop
-μ-loop powers logs k u first out₀ from len e₀ out e = len - e
+μ-loop tables k u first out₀ from len e₀ out e = len - e
 
 loop-holds : tie.Need-loop-holds Inv-loop μ-loop
 loop-holds c = (omega arith, refl, added-none _ _ _)

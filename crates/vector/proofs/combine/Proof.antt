@@ -10,11 +10,11 @@ use Rattle.vector.proofs.combine.Statement.{statement}
 use Rattle.vector.proofs.combine.Tie as tie
 
 abbrev Inv-loop : tie.InvT-loop
-Inv-loop powers logs count c first step u start out₀ from len i₀ out i =
+Inv-loop tables count c first step u start out₀ from len i₀ out i =
     (i ≤ count) × (length out ≡ length out₀) × (out ≡ added len from (mixed i (λ j. at c (first + j * step)) (λ j e. at u (start + j * len + e))) out₀)
 
 abbrev μ-loop : tie.MeasureT-loop
-μ-loop powers logs count c first step u start out₀ from len i₀ out i = count - i
+μ-loop tables count c first step u start out₀ from len i₀ out i = count - i
 
 loop-holds : tie.Need-loop-holds Inv-loop μ-loop
 loop-holds c = (omega arith, refl, mixed-none _ _ _ _ _)
@@ -23,43 +23,43 @@ mul-add-multiple : tie.Need-mul-add-multiple Inv-loop μ-loop
 mul-add-multiple c =
     let l = c .before .loop in
     let b = c .before .before .before .before .before in
-    omega (arith, coefficient-in (b .args .first) (b .args .step) (b .args .count) (l .i) (omega arith) (b .pre .2))
+    omega (arith, coefficient-in (b .args .first) (b .args .step) (b .args .count) (l .i) (omega arith) (b .pre .1))
 
 add-add-multiple : tie.Need-add-add-multiple Inv-loop μ-loop
 add-add-multiple c =
     let l = c .before .loop in
     let b = c .before .before .before .before .before in
-    omega (arith, coefficient-in (b .args .first) (b .args .step) (b .args .count) (l .i) (omega arith) (b .pre .2))
+    omega (arith, coefficient-in (b .args .first) (b .args .step) (b .args .count) (l .i) (omega arith) (b .pre .1))
 
 shared-slice-read-add-multiple : tie.Need-shared-slice-read-add-multiple Inv-loop μ-loop
 shared-slice-read-add-multiple c =
     let l = c .before .before .loop in
     let b = c .before .before .before .before .before .before in
-    coefficient-in (b .args .first) (b .args .step) (b .args .count) (l .i) (omega arith) (b .pre .2)
+    coefficient-in (b .args .first) (b .args .step) (b .args .count) (l .i) (omega arith) (b .pre .1)
 
 mul-add-multiple-2 : tie.Need-mul-add-multiple-2 Inv-loop μ-loop
 mul-add-multiple-2 c =
     let l = c .before .before .loop in
     let b = c .before .before .before .before .before .before in
-    omega (arith, vector-in (b .args .start) (b .args .len) (b .args .count) (l .i) (omega arith) (b .pre .3))
+    omega (arith, vector-in (b .args .start) (b .args .len) (b .args .count) (l .i) (omega arith) (b .pre .2))
 
 add-add-multiple-2 : tie.Need-add-add-multiple-2 Inv-loop μ-loop
 add-add-multiple-2 c =
     let l = c .before .before .loop in
     let b = c .before .before .before .before .before .before in
-    omega (arith, vector-in (b .args .start) (b .args .len) (b .args .count) (l .i) (omega arith) (b .pre .3))
+    omega (arith, vector-in (b .args .start) (b .args .len) (b .args .count) (l .i) (omega arith) (b .pre .2))
 
 add-multiple-requires : tie.Need-add-multiple-requires Inv-loop μ-loop
 add-multiple-requires c κs =
     let l = c .before .before .before .loop in
     let b = c .before .before .before .before .before .before .before in
-    (b .pre .0, b .pre .1, vector-in (b .args .start) (b .args .len) (b .args .count) (l .i) (omega arith) (b .pre .3), omega (arith, b .pre .4))
+    (b .pre .0, vector-in (b .args .start) (b .args .len) (b .args .count) (l .i) (omega arith) (b .pre .2), omega (arith, b .pre .3))
 
 loop-again : tie.Need-loop-again Inv-loop μ-loop
 loop-again c =
     let i = c .before .before .before .before .before .before .loop .inv in
     let b = c .before .before .before .before .before .before .before .before .before .before in
-    (omega arith, search needs, mixed-more _ _ _ _ _ _ _ (b .pre .4) (i .2) (c .before .before .add-multiple .ensures) (λ e l. refl))
+    (omega arith, search needs, mixed-more _ _ _ _ _ _ _ (b .pre .3) (i .2) (c .before .before .add-multiple .ensures) (λ e l. refl))
 
 returns : tie.Need-returns Inv-loop μ-loop
 returns c =

@@ -9,10 +9,10 @@ use Rattle.vector.proofs.product_of.Statement.{statement}
 use Rattle.vector.proofs.product_of.Tie as tie
 
 abbrev Inv-loop : tie.InvT-loop
-Inv-loop powers logs u v len total₀ e₀ total e = (e ≤ len) × (total ≡ product e (at u) (at v))
+Inv-loop tables u v len total₀ e₀ total e = (e ≤ len) × (total ≡ product e (at u) (at v))
 
 abbrev μ-loop : tie.MeasureT-loop
-μ-loop powers logs u v len total₀ e₀ total e = len - e
+μ-loop tables u v len total₀ e₀ total e = len - e
 
 loop-holds : tie.Need-loop-holds Inv-loop μ-loop
 unfolding product

@@ -8,39 +8,39 @@ use Rattle.audit.proofs.judge.judged.Tie as tie
 
 named-row-requires : tie.Need-named-row-requires
 named-row-requires c κs =
-    let t = c .before .before .before .before in
+    let t = c .before in
     let j = verdict-tells _ _ _ _ _ _ (t .before .before .before .before .before .before .pre) in
-    (t .tables .ensures .0, t .tables .ensures .1, j .sized, j .formed, j .there, j .rows-length)
+    (t .tables .ensures, j .sized, j .formed, j .there, j .rows-length)
 
 add-key-vector-into : tie.Need-add-key-vector-into
-add-key-vector-into c = let r = ranged _ (verdict-tells _ _ _ _ _ _ (c .before .before .before .before .before .before .before .before .before .before .before .before .before .pre) .sized) in omega arith
+add-key-vector-into c = let r = ranged _ (verdict-tells _ _ _ _ _ _ (c .before .before .before .before .before .before .before .before .before .before .pre) .sized) in omega arith
 
 key-vector-into-requires : tie.Need-key-vector-into-requires
 key-vector-into-requires c κs =
-    let j = verdict-tells _ _ _ _ _ _ (c .before .before .before .before .before .before .before .before .before .before .before .before .before .pre) in
+    let j = verdict-tells _ _ _ _ _ _ (c .before .before .before .before .before .before .before .before .before .before .pre) in
     let r = ranged _ (j .sized) in
     (j .key-length, j .id-length, omega arith)
 
 agrees-requires : tie.Need-agrees-requires
 agrees-requires c κs =
-    let t = c .before .before .before .before .before .before .before .before .before .before .before .before in
+    let t = c .before .before .before .before .before .before .before .before in
     let j = verdict-tells _ _ _ _ _ _ (t .before .before .before .before .before .before .pre) in
-    (t .tables .ensures .0, t .tables .ensures .1, j .sized, j .response-length, search needs)
+    (t .tables .ensures, j .sized, j .response-length, search needs)
 
 returns : tie.Need-returns
 returns c =
-    let v = c .before .before .before .before .before .before in
+    let v = c .before .before .before .before .before in
     let named = v .before .before .before in
-    let done = named .before .before .before .before .before .before .before .before .before .before .before .pre in
+    let done = named .before .before .before .before .before .before .before .before .pre in
     let r = ranged _ (verdict-tells _ _ _ _ _ _ done .sized) in
     verdict-judged _ _ _ _ _ _ done _ _ true (omega arith) (omega arith) (v .key-vector-into .ensures) (named .named-row .ensures)
     (c .before .agrees .ensures) (c .if1 .taken)
 
 returns-2 : tie.Need-returns-2
 returns-2 c =
-    let v = c .before .before .before .before .before .before in
+    let v = c .before .before .before .before .before in
     let named = v .before .before .before in
-    let done = named .before .before .before .before .before .before .before .before .before .before .before .pre in
+    let done = named .before .before .before .before .before .before .before .before .pre in
     let r = ranged _ (verdict-tells _ _ _ _ _ _ done .sized) in
     verdict-judged _ _ _ _ _ _ done _ _ false (omega arith) (omega arith) (v .key-vector-into .ensures) (named .named-row .ensures)
     (c .before .agrees .ensures) (c .if1 .left)

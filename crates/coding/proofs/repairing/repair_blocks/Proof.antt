@@ -15,23 +15,23 @@ use Rattle.coding.proofs.repairing.repair_blocks.Statement.{statement}
 use Rattle.coding.proofs.repairing.repair_blocks.Tie as tie
 
 abbrev Inv-loop : tie.InvT-loop
-Inv-loop powers logs archive helpers q gammas scratch₀ z places len t₀ t-end scratch t =
+Inv-loop tables archive helpers q gammas scratch₀ z places len t₀ t-end scratch t =
     (t ≤ t-end) × (t-end ≡ length helpers * q) × (length scratch ≡ length scratch₀)
     × (scratch ≡ grid t len 0 (λ i. repairByte z archive helpers q gammas (i / q) (i % q)) scratch₀) × Blocks z archive helpers q gammas scratch₀ len
 
 abbrev μ-loop : tie.MeasureT-loop
-μ-loop powers logs archive helpers q gammas scratch₀ z places len t₀ t-end scratch t = t-end - t
+μ-loop tables archive helpers q gammas scratch₀ z places len t₀ t-end scratch t = t-end - t
 
 sizes-in-requires : tie.Need-sizes-in-requires Inv-loop μ-loop
-sizes-in-requires c κs = omega (arith, good-length _ (c .before .before .before .before .pre .2))
+sizes-in-requires c κs = omega (arith, good-length _ (c .before .before .before .before .pre .1))
 
 record-length-requires : tie.Need-record-length-requires Inv-loop μ-loop
-record-length-requires c κs = not-sizes-outside _ (read-sizes _ (c .sizes-in .ensures) (c .before .before .before .before .before .pre .2))
+record-length-requires c κs = not-sizes-outside _ (read-sizes _ (c .sizes-in .ensures) (c .before .before .before .before .before .pre .1))
 
 mul-t-end : tie.Need-mul-t-end Inv-loop μ-loop
 mul-t-end c =
     let p = c .before .before .before .before .before .before .pre in
-    omega (arith, blocks-low _ _ (p .5) (p .4))
+    omega (arith, blocks-low _ _ (p .4) (p .3))
 
 loop-holds : tie.Need-loop-holds Inv-loop μ-loop
 loop-holds c =
@@ -43,7 +43,7 @@ loop-holds c =
       refl,
       grid-none _ _ _ _,
       blocks-known (a .helpers .now) (a .q) (a .gammas .now) (a .scratch .now) (c .before .sizes-in .ensures) (c .record-length .ensures .0)
-          (p .2) (p .3) (p .4) (p .5) (p .6) (p .7) (p .8),
+          (p .1) (p .2) (p .3) (p .4) (p .5) (p .6) (p .7),
     )
 
 shared-slice-read-widen : tie.Need-shared-slice-read-widen Inv-loop μ-loop
@@ -90,7 +90,6 @@ combine-requires c κs =
     let p = l .before .before .before .before .before .before .before .pre in
     let k = turn (l .loop .inv .4) (l .loop .t) (omega arith) (w .widen .ensures .0) in (
       p .0,
-      p .1,
       λ h. omega (arith, k .coefficients),
       omega (arith, k .records, start .record-start .ensures),
       omega (arith, k .block, c .before .before .scratch .given),

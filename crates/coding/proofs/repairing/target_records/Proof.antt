@@ -15,15 +15,15 @@ use Rattle.coding.proofs.repairing.target_records.Statement.{statement}
 use Rattle.coding.proofs.repairing.target_records.Tie as tie
 
 abbrev Inv-loop : tie.InvT-loop
-Inv-loop powers logs z scratch count thetas archive₀ target places len k₀ archive k =
+Inv-loop tables z scratch count thetas archive₀ target places len k₀ archive k =
     (k ≤ places) × (length archive ≡ length archive₀)
     × (archive ≡ grid k len (recordStart z (target * places)) (λ j. mixed count (λ t. at thetas (t * places + j)) (λ t e. at scratch (t * len + e))) archive₀)
 
 abbrev μ-loop : tie.MeasureT-loop
-μ-loop powers logs z scratch count thetas archive₀ target places len k₀ archive k = places - k
+μ-loop tables z scratch count thetas archive₀ target places len k₀ archive k = places - k
 
 record-length-requires : tie.Need-record-length-requires Inv-loop μ-loop
-record-length-requires c κs = c .before .before .before .pre .2
+record-length-requires c κs = c .before .before .before .pre .1
 
 loop-holds : tie.Need-loop-holds Inv-loop μ-loop
 loop-holds c = (omega arith, refl, grid-none _ _ _ _)
@@ -31,7 +31,7 @@ loop-holds c = (omega arith, refl, grid-none _ _ _ _)
 add-record-start : tie.Need-add-record-start Inv-loop μ-loop
 add-record-start c =
     let p = c .before .before .before .before .before .before .pre in
-    omega (arith, number-mark _ (ranged _ (p .2)) _ _ (p .4) (c .loop-test .taken))
+    omega (arith, number-mark _ (ranged _ (p .1)) _ _ (p .3) (c .loop-test .taken))
 
 mul-record-start : tie.Need-mul-record-start Inv-loop μ-loop
 mul-record-start c = omega (arith, add-record-start c)
@@ -39,12 +39,12 @@ mul-record-start c = omega (arith, add-record-start c)
 record-start-requires : tie.Need-record-start-requires Inv-loop μ-loop
 record-start-requires c κs =
     let p = c .before .before .before .before .before .before .pre in
-    (p .2, number-mark _ (ranged _ (p .2)) _ _ (p .4) (c .loop-test .taken))
+    (p .1, number-mark _ (ranged _ (p .1)) _ _ (p .3) (c .loop-test .taken))
 
 zero-requires : tie.Need-zero-requires Inv-loop μ-loop
 zero-requires c κs =
     let p = c .before .before .before .before .before .before .before .before .pre in
-    omega (arith, record-in _ (ranged _ (p .2)) _ _ (p .4) (c .before .before .loop-test .taken))
+    omega (arith, record-in _ (ranged _ (p .1)) _ _ (p .3) (c .before .before .loop-test .taken))
 
 combine-requires : tie.Need-combine-requires Inv-loop μ-loop
 combine-requires c κs =
@@ -52,10 +52,9 @@ combine-requires c κs =
     let p = s .pre in
     let n = s .args .count in (
       p .0,
-      p .1,
       λ h. omega (arith, mul-le-mul-right {m = n - 1 + 1} {n = n} (s .args .z .places) (omega arith)),
       rw (c .before .before .before .before .before .before .before .before .record-length .ensures .0) (omega arith),
-      omega (arith, record-in _ (ranged _ (p .2)) _ _ (p .4) (c .before .before .before .before .before .before .loop-test .taken), c .before .before .before .before .before .record-start .ensures, c .before .before .archive .given),
+      omega (arith, record-in _ (ranged _ (p .1)) _ _ (p .3) (c .before .before .before .before .before .before .loop-test .taken), c .before .before .before .before .before .record-start .ensures, c .before .before .archive .given),
     )
 
 loop-again : tie.Need-loop-again Inv-loop μ-loop
@@ -68,7 +67,7 @@ loop-again c =
       omega arith,
       omega (arith, c .before .archive2 .given, c .before .before .before .before .before .archive .given),
       row-made (l .loop .k) (l .before .record-length .result) (recordStart (a .z) (a .target * a .z .places)) _ _ (a .archive .now)
-          (records-in (a .z) (a .target) (l .loop .k) len (s .pre .4) (start .before .loop-test .taken) (s .pre .7)) (l .loop .inv .2)
+          (records-in (a .z) (a .target) (l .loop .k) len (s .pre .3) (start .before .loop-test .taken) (s .pre .6)) (l .loop .inv .2)
           (start .record-start .ensures ∙ record-from (a .z) (a .target * a .z .places) (l .loop .k) len) (c .before .before .before .before .before .before .zero .ensures) (c .before .before .combine .ensures)
           (λ e h. record-made (a .count) (a .z .places) (l .before .record-length .result) (l .loop .k) e (a .thetas .now) (a .scratch .now)),
     )

@@ -5,13 +5,13 @@ use Rattle.field.proofs.TableLaws.{pass, tables-pass}
 use Rattle.field.proofs.constants.tables.Statement.{statement}
 use Rattle.field.proofs.constants.tables.Tie as tie
 
-twice-requires : tie.Need-twice-requires
-twice-requires c κs = search needs
+laid-requires : tie.Need-laid-requires
+laid-requires c κs = search needs
 
 -- antt computes the test over the code's own tables
 returns : tie.Need-returns
 unfolding pass all times xtimes xtime modulus sum
-returns c = tables-pass _ _ (c .twice .ensures) tt
+returns c = tables-pass _ _ (c .laid .ensures) tt
 
 pub tables-spec : {M : Type 1} → statement M
-tables-spec = tie.close (tie.spec twice-requires returns)
+tables-spec = tie.close (tie.spec laid-requires returns)

@@ -9,7 +9,7 @@ product-of-requires : tie.Need-product-of-requires
 product-of-requires c κs =
     let s = c .before .before .before in
     let long : length (s .args .row .bytes) ≡ 16 = search needs in
-    (s .pre .0, s .pre .1, omega (arith, s .pre), s .pre .3)
+    (s .pre .0, omega (arith, s .pre), s .pre .2)
 
 pub dot-spec : {M : Type 1} → statement M
 dot-spec = tie.close (tie.spec (λ c. search needs) product-of-requires (λ c. search needs))

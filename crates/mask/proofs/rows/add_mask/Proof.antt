@@ -5,7 +5,7 @@ use Rattle.mask.proofs.rows.add_mask.Tie as tie
 
 returns : tie.Need-returns
 returns c =
-    let b = c .before .before .before .before .before .before in
+    let b = c .before .before .before .before .before in
     mask-drawn _ _ _ _ _ _ (b .before .seed-nonce .ensures) (b .new .ensures) (c .before .before .add-rows .ensures)
 
 pub add-mask-spec : {M : Type 1} → statement M

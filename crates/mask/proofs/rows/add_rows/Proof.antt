@@ -14,12 +14,12 @@ use Rattle.mask.proofs.rows.add_rows.Statement.{statement}
 use Rattle.mask.proofs.rows.add_rows.Tie as tie
 
 abbrev Inv-loop : tie.InvT-loop
-Inv-loop powers logs key id n out₀ from s₀ i₀ i-end out s i =
+Inv-loop tables key id n out₀ from s₀ i₀ i-end out s i =
     (i ≤ i-end) × (i-end ≡ n - 1) × (length out ≡ length out₀) × (s ≡ after i s₀)
     × (out ≡ added (n - 2) from (mixed i (λ j. drawn (after j s₀) .byte) (maskRow key id)) out₀)
 
 abbrev μ-loop : tie.MeasureT-loop
-μ-loop powers logs key id n out₀ from s₀ i₀ i-end out s i = i-end - i
+μ-loop tables key id n out₀ from s₀ i₀ i-end out s i = i-end - i
 
 loop-holds : tie.Need-loop-holds Inv-loop μ-loop
 loop-holds c = (omega arith, refl, refl, after-none _, mixed-none _ _ _ _ _)

@@ -13,11 +13,11 @@ use Rattle.mask.proofs.rows.auxiliary_into.Statement.{statement}
 use Rattle.mask.proofs.rows.auxiliary_into.Tie as tie
 
 abbrev Inv-loop : tie.InvT-loop
-Inv-loop powers logs key id vector n out₀ i₀ i-end out i =
+Inv-loop tables key id vector n out₀ i₀ i-end out i =
     (i ≤ i-end) × (i-end ≡ n - 1) × (length out ≡ n - 1) × (take i out ≡ tab i (λ j. product (n - 2) (maskRow key id j) (at vector)))
 
 abbrev μ-loop : tie.MeasureT-loop
-μ-loop powers logs key id vector n out₀ i₀ i-end out i = i-end - i
+μ-loop tables key id vector n out₀ i₀ i-end out i = i-end - i
 
 loop-holds : tie.Need-loop-holds Inv-loop μ-loop
 loop-holds c = (omega arith, refl, omega arith, tab-none _ [])

@@ -5,7 +5,7 @@ use Rattle.mask.proofs.rows.mask_sum.Tie as tie
 
 returns : tie.Need-returns
 returns c =
-    let b = c .before .before .before in
+    let b = c .before .before in
     sum-drawn _ _ _ _ (b .before .seed-nonce .ensures) (b .new .ensures) (c .product-drawn .ensures)
 
 pub mask-sum-spec : {M : Type 1} → statement M

@@ -13,7 +13,7 @@ returns c = sym (refused _ _ (differs-other (c .if1 .taken)))
 
 returns-2 : tie.Need-returns-2
 unfolding challengeAnswer
-returns-2 c = sym (passed _ _ (differs-same (c .before .before .if1 .left)) ∙ refused _ _ (sym (c .before .out-of-rule .ensures) ∙ c .if2 .taken))
+returns-2 c = sym (passed _ _ (differs-same (c .before .before .if1 .left)) ∙ refused _ _ (cc))
 
 message-length-requires : tie.Need-message-length-requires
 message-length-requires c κs = in-rule (challengeFor _ _ []) (sym (c .before .out-of-rule .ensures) ∙ c .if2 .left) .few
@@ -22,14 +22,14 @@ returns-3 : tie.Need-returns-3
 unfolding challengeAnswer
 returns-3 c =
     sym
-    (passed _ _ (differs-same (c .before .before .before .before .if1 .left)) ∙ passed _ _ (sym (c .before .before .before .out-of-rule .ensures) ∙ c .before .before .if2 .left)
+    (passed _ _ (differs-same (c .before .before .before .before .if1 .left)) ∙ passed _ _ (cc)
     ∙ refused _ _ (differs-other (λ e. c .if3 .taken (e ∙ sym (c .before .message-length .ensures)))))
 
 returns-4 : tie.Need-returns-4
 unfolding challengeAnswer
 returns-4 c =
     sym
-    (passed _ _ (differs-same (c .before .before .before .before .if1 .left)) ∙ passed _ _ (sym (c .before .before .before .out-of-rule .ensures) ∙ c .before .before .if2 .left)
+    (passed _ _ (differs-same (c .before .before .before .before .if1 .left)) ∙ passed _ _ (cc)
     ∙ passed _ _ (differs-same (c .if3 .left ∙ c .before .message-length .ensures)))
 
 pub challenge-check-spec : {M : Type 1} → statement M

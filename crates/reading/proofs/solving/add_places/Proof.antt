@@ -14,37 +14,36 @@ use Rattle.reading.proofs.solving.add_places.Statement.{statement}
 use Rattle.reading.proofs.solving.add_places.Tie as tie
 
 abbrev Inv-loop : tie.InvT-loop
-Inv-loop powers logs archive z file₀ from places coefficients len t₀ t-end file t =
+Inv-loop tables archive z file₀ from places coefficients len t₀ t-end file t =
     (t ≤ t-end) × (length file ≡ length file₀) × (file ≡ added len from (mixed t (at coefficients) (λ j. byteIn z archive (at places j))) file₀)
 
 abbrev μ-loop : tie.MeasureT-loop
-μ-loop powers logs archive z file₀ from places coefficients len t₀ t-end file t = t-end - t
+μ-loop tables archive z file₀ from places coefficients len t₀ t-end file t = t-end - t
 
 sub-len : tie.Need-sub-len Inv-loop μ-loop
-sub-len c = omega (arith, ranged _ (c .before .before .before .pre .2))
+sub-len c = omega (arith, ranged _ (c .before .before .before .pre .1))
 
 loop-holds : tie.Need-loop-holds Inv-loop μ-loop
 loop-holds c = (omega arith, refl, mixed-none _ _ _ _ _)
 
 array-read-widen : tie.Need-array-read-widen Inv-loop μ-loop
-array-read-widen c = omega (arith, ranged _ (c .before .before .before .before .before .pre .2))
+array-read-widen c = omega (arith, ranged _ (c .before .before .before .before .before .pre .1))
 
 record-start-requires : tie.Need-record-start-requires Inv-loop μ-loop
 record-start-requires c κs =
     let b = c .before .before .before .before .before .before in
-    (b .pre .2, omega (arith, c .widen .ensures, b .pre .3 _ (c .before .loop-test .taken), count-low _ (ranged _ (b .pre .2))))
+    (b .pre .1, omega (arith, c .widen .ensures, b .pre .2 _ (c .before .loop-test .taken), count-low _ (ranged _ (b .pre .1))))
 
 array-read-add-multiple : tie.Need-array-read-add-multiple Inv-loop μ-loop
-array-read-add-multiple c = omega (arith, ranged _ (c .before .before .before .before .before .before .before .pre .2))
+array-read-add-multiple c = omega (arith, ranged _ (c .before .before .before .before .before .before .before .pre .1))
 
 add-multiple-requires : tie.Need-add-multiple-requires Inv-loop μ-loop
 add-multiple-requires c κs =
     let l = c .before .before .before .before in
     let b = l .before .before .before .before in (
       b .pre .0,
-      b .pre .1,
-      data-fits _ (b .pre .3 _ (c .before .before .before .loop-test .taken)) (c .before .before .widen .ensures .0) (c .before .record-start .ensures) (b .pre .4),
-      omega (arith, l .loop .inv .1, b .pre .5),
+      data-fits _ (b .pre .2 _ (c .before .before .before .loop-test .taken)) (c .before .before .widen .ensures .0) (c .before .record-start .ensures) (b .pre .3),
+      omega (arith, l .loop .inv .1, b .pre .4),
     )
 
 loop-again : tie.Need-loop-again Inv-loop μ-loop
@@ -53,7 +52,7 @@ loop-again c =
     let b = l .before .before .before .before in (
       omega arith,
       search needs,
-      place-added _ _ (b .args .t5) (b .args .t6) _ _ _ _ (b .pre .5) (c .before .before .before .before .before .widen .ensures .0)
+      place-added _ _ (b .args .t4) (b .args .t5) _ _ _ _ (b .pre .4) (c .before .before .before .before .before .widen .ensures .0)
           (c .before .before .before .before .record-start .ensures) (l .loop .inv .2) (c .before .before .add-multiple .ensures),
     )
 
