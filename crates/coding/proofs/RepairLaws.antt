@@ -18,7 +18,7 @@ use Rattle.field.proofs.SumLaws.{sum-same, sum-rows}
 use Rattle.sizes.specs.declared.Sizes.{Sizes}
 use Rattle.vector.specs.Vectors.{mixed}
 use Rattle.sizes.proofs.SizeLaws.{Ranged}
-use Rattle.sizes.specs.Lengths.{recordLength, archiveLength, recordStart, placeNumber}
+use Rattle.sizes.specs.Lengths.{recordLength, archiveLength, recordStart, placeNumber, recordMost}
 use Rattle.archive.specs.Layout.{sizesOf, idOf, markAt, byteIn, badArchive, withMarks, stored}
 use Rattle.archive.specs.Calls.{repair, answerFor, archiveAnswer, effectFor}
 use Rattle.archive.specs.Repair.{coefficient, repairByte, targetByte, scratchMade}
@@ -122,7 +122,7 @@ pub record Turn (z : Sizes) (s gammas scratch : List ℕ) (len t h : ℕ) : Type
   pub records : recordStart z (h * z .places) + z .places * len ≤ length s
   pub first-low : t * z .places ≤ 40 * 8
   pub coefficients : t * z .places + z .places ≤ length gammas
-  pub start-low : t * len ≤ 40 * 1041
+  pub start-low : t * len ≤ 40 * recordMost
   pub block : t * len + len ≤ length scratch
 
 pub blocks-known : {z : Sizes} {s : List ℕ} (helpers : List ℕ) (q : ℕ) (gammas scratch : List ℕ) {len : ℕ} → z ≡ sizesOf s → len ≡ recordLength z → badArchive s ≡ false
@@ -153,7 +153,7 @@ module _ {z : Sizes} {s helpers : List ℕ} {q : ℕ} {gammas scratch : List ℕ
         records = rw (known .len-is) (omega (arith, node-in z h node, known .long));
         first-low = mul-le-mul {n₂ = 40} {m₂ = 8} (omega (arith, known .count)) (R .places-high);
         coefficients = omega (arith, mul-le-mul-right (z .places) l, known .gammas-length);
-        start-low = mul-le-mul {n₂ = 40} {m₂ = 1041} (omega (arith, known .count)) (omega (arith, known .len-is, R .n-high, R .m-high));
+        start-low = mul-le-mul {n₂ = 40} {m₂ = recordMost} (omega (arith, known .count)) (omega (arith, known .len-is, R .n-high, R .m-high));
         block = omega (arith, mul-le-mul-right len l, known .scratch-length);
       }
 

@@ -1,5 +1,5 @@
 -- What Setup's answer tells, what is written then, and the mask as its coefficients are drawn. Assumes nothing.
-use Prim.Native.Nat.{ℕ, _+_, _-_, _*_, _<_, _≤_}
+use Prim.Native.Nat.{ℕ, _+_, _-_, _<_, _≤_}
 use mathlib.Core.Path.{_≡_, sym, _∙_, ap}
 use mathlib.Core.List.{List, _∷_}
 use native.Mathlib.Omega.{arith}
@@ -10,9 +10,11 @@ use Rattle.lists.proofs.PutLaws.{put-front}
 use Rattle.lists.proofs.AnyLaws.{none-at}
 use Rattle.answer.specs.declared.Outcome.{Outcome}
 use Rattle.answer.specs.declared.Outcome.the-variants.{Done}
-use Rattle.answer.proofs.RefusalLaws.{accepted, same, inside}
+use Rattle.answer.proofs.RefusalLaws.{accepted, same}
 use Rattle.field.proofs.SumLaws.{sum-same}
 use Rattle.field.proofs.TimesLaws.{times-comm}
+use Rattle.sizes.specs.Lengths.{nLeast, nMost, keyLength, idLength, auxiliaryLength}
+use Rattle.sizes.proofs.SizeLaws.{n-range}
 use Rattle.keystream.specs.PrivateStream.{fresh, drawn, after}
 use Rattle.keystream.specs.declared.stream.Stream.{Stream}
 use Rattle.keystream.proofs.DrawLaws.{draws-in-order}
@@ -27,11 +29,11 @@ use Rattle.mask.specs.Setup.{setupAnswer}
 
 module _ (tagKey maskKey id : List ℕ) (n : ℕ) (out : List ℕ) {o : Outcome} (answer : o ≡ setupAnswer tagKey maskKey id n out) where
   pub setup-sizes : o ≡ Done
-      → (3 ≤ n) × (n ≤ 1024) × (length tagKey ≡ 32) × (length maskKey ≡ 32) × (length id ≡ 8) × (length out ≡ n - 1)
+      → (nLeast ≤ n) × (n ≤ nMost) × (length tagKey ≡ keyLength) × (length maskKey ≡ keyLength) × (length id ≡ idLength) × (length out ≡ auxiliaryLength n)
   unfolding setupAnswer
   setup-sizes e =
       let a = accepted _ _ _ (sym answer ∙ e) in
-      let r = inside 3 1024 n (a .0) in
+      let r = n-range n (a .0) in
       let t = accepted _ _ _ (a .1) .0 in
       (r .0, r .1, same _ _ (none-at _ 0 t), same _ _ (none-at _ 1 t), same _ _ (none-at _ 2 t), same _ _ (none-at _ 3 t))
 
@@ -41,12 +43,12 @@ unfolding auxiliary
 auxiliary-same n v v′ rows h = tab-same (n - 1) _ _ (λ i l. product-keys (n - 2) (rows i) v v′ h)
 
 -- the elements over a buffer that F1's stream filled
-pub auxiliary-of : (n : ℕ) (tagKey maskKey id before : List ℕ) {hidden vector out : List ℕ} → hidden ≡ maskKey → length before ≡ 1024
-    → vector ≡ put (64 * 16) 0 (keyVector tagKey id) before → n ≤ 1024 → out ≡ auxiliary n (at vector) (maskRow hidden id)
+pub auxiliary-of : (n : ℕ) (tagKey maskKey id before : List ℕ) {hidden vector out : List ℕ} → hidden ≡ maskKey → length before ≡ nMost
+    → vector ≡ put nMost 0 (keyVector tagKey id) before → n ≤ nMost → out ≡ auxiliary n (at vector) (maskRow hidden id)
     → out ≡ auxiliary n (keyVector tagKey id) (maskRow maskKey id)
 auxiliary-of n tagKey maskKey id before {hidden} {vector} r l f high e =
     e ∙ auxiliary-same n (at vector) (keyVector tagKey id) (maskRow hidden id)
-    (λ i h. ap (λ (s : List ℕ). at s i) f ∙ put-front (64 * 16) (keyVector tagKey id) before i (omega arith) (omega arith))
+    (λ i h. ap (λ (s : List ℕ). at s i) f ∙ put-front nMost (keyVector tagKey id) before i (omega arith) (omega arith))
     ∙ ap (λ (k : List ℕ). auxiliary n (keyVector tagKey id) (maskRow k id)) r
 
 -- ---- the mask

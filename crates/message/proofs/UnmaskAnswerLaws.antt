@@ -11,22 +11,23 @@ use Rattle.lists.proofs.PutLaws.{length-put, put-front}
 use Rattle.lists.proofs.AnyLaws.{none-at}
 use Rattle.answer.specs.declared.Outcome.{Outcome}
 use Rattle.answer.specs.declared.Outcome.the-variants.{Done}
-use Rattle.answer.proofs.RefusalLaws.{accepted, same, inside}
+use Rattle.answer.proofs.RefusalLaws.{accepted, same}
 use Rattle.field.specs.Field.{plus}
 use Rattle.vector.specs.Vectors.{added}
 use Rattle.vector.proofs.AddedLaws.{length-added, added-at}
 use Rattle.mask.specs.Masks.{maskRow, maskCoefficient, mask}
-use Rattle.sizes.specs.Lengths.{responseLength}
+use Rattle.sizes.specs.Lengths.{responseLength, nLeast, nMost, keyLength, idLength}
+use Rattle.sizes.proofs.SizeLaws.{n-range}
 use Rattle.message.specs.Response.{dataIn, seedIn}
 use Rattle.message.specs.Unmask.{unmaskAnswer, unmasked}
 
 module _ (n : ℕ) (id maskKey response out : List ℕ) {o : Outcome} (answer : o ≡ unmaskAnswer n id maskKey response out) where
   pub unmask-sizes : o ≡ Done
-      → (3 ≤ n) × (n ≤ 1024) × (length id ≡ 8) × (length maskKey ≡ 32) × (length response ≡ responseLength n) × (length out ≡ n - 2)
+      → (nLeast ≤ n) × (n ≤ nMost) × (length id ≡ idLength) × (length maskKey ≡ keyLength) × (length response ≡ responseLength n) × (length out ≡ n - 2)
   unfolding unmaskAnswer
   unmask-sizes e =
       let a = accepted _ _ _ (sym answer ∙ e) in
-      let r = inside 3 1024 n (a .0) in
+      let r = n-range n (a .0) in
       let t = accepted _ _ _ (a .1) .0 in
       (r .0, r .1, same _ _ (none-at _ 0 t), same _ _ (none-at _ 1 t), same _ _ (none-at _ 2 t), same _ _ (none-at _ 3 t))
 

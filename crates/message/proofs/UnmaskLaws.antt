@@ -17,7 +17,7 @@ use Rattle.field.proofs.XorLaws.{xor-undo}
 use Rattle.bits.specs.Fields.{_wide_, widths, fieldAt}
 use Rattle.bits.proofs.PackLaws.{pack-field}
 use Rattle.mask.specs.Masks.{maskRow, maskCoefficient, mask}
-use Rattle.sizes.specs.Lengths.{responseLength}
+use Rattle.sizes.specs.Lengths.{responseLength, nLeast, nMost}
 use Rattle.message.specs.Response.{responseHead, responseBytes}
 use Rattle.message.specs.Unmask.{unmaskAnswer, unmasked, unmaskOut}
 use Rattle.message.proofs.ResponseLaws.{response-length, response-fields, response-seed, response-data}
@@ -41,7 +41,7 @@ module _ (n node : ℕ) (block : ℕ → ℕ) (tag total : ℕ) (id maskKey seed
 
   -- ---- and refuses no such response
 
-  module _ (out : List ℕ) (high : n ≤ 1024) (node-low : node ≤ 5) (id-size : length id ≡ 8) (key-size : length maskKey ≡ 32) (out-size : length out ≡ n - 2) where
+  module _ (out : List ℕ) (high : n ≤ nMost) (node-low : node ≤ 5) (id-size : length id ≡ 8) (key-size : length maskKey ≡ 32) (out-size : length out ≡ n - 2) where
     head-field : (from w : ℕ) → from + w ≤ 8 → fieldAt r from w ≡ fieldAt (responseHead node) from w
     head-field = response-fields n node block tag hidden seed total low seed-size
 
@@ -73,7 +73,7 @@ module _ (n node : ℕ) (block : ℕ → ℕ) (tag total : ℕ) (id maskKey seed
 
     unmask-accepts : unmaskAnswer n id maskKey r out ≡ Done
     unfolding unmaskAnswer
-    unmask-accepts = passed Size _ (not-outside 3 1024 n low high) ∙ passed Length _ lengths-right ∙ passed Malformed _ head-right
+    unmask-accepts = passed Size _ (not-outside nLeast nMost n low high) ∙ passed Length _ lengths-right ∙ passed Malformed _ head-right
 
     pub unmask-gives : (unmaskAnswer n id maskKey r out ≡ Done) × (unmaskOut n id maskKey r out ≡ tab (n - 2) block)
     unfolding unmaskOut

@@ -15,7 +15,7 @@ use Rattle.vector.specs.Vectors.{added}
 use Rattle.message.specs.Challenge.{Challenge, challengeBits, challengeOf, malformedChallenge, notThere}
 use Rattle.message.proofs.ChallengeReadLaws.{readable}
 use Rattle.message.proofs.NamedLaws.{firstNamed, place-there, named-read}
-use Rattle.sizes.specs.Lengths.{placeCount, recordLength, placeNumber, recordStart}
+use Rattle.sizes.specs.Lengths.{placeCount, recordLength, placeNumber, recordStart, recordMost}
 use Rattle.archive.specs.Layout.{sizesOf, byteIn, badArchive}
 use Rattle.archive.specs.Prove.{namedByte}
 use Rattle.sizes.proofs.PlaceLaws.{number-low, count-low, record-fits}
@@ -65,10 +65,10 @@ module _ (s message : List ℕ) (good : badArchive s ≡ false) (ok : malformedC
     records-there j h = rw (start-is, length-is, good-length s good) (omega (arith, record-fits z (named j) (named-there j h)))
 
     -- those of the named places, as they were added to zeros
-    pub records-named : {t : List ℕ} → t ≡ added len 0 (firstNamed c s start len count) (replicate 1041 0)
+    pub records-named : {t : List ℕ} → t ≡ added len 0 (firstNamed c s start len count) (replicate recordMost 0)
         → (i : ℕ) → i < recordLength z → at t i ≡ namedByte z s c i
     unfolding namedByte byteIn
     records-named made i h =
         let R = good-sizes s good in
-        named-read c s start 1041 len _ (omega (arith, length-is, R .n-high, R .m-high)) made
+        named-read c s start recordMost len _ (omega (arith, length-is, R .n-high, R .m-high)) made
         (λ j p. ap (at s) (rw (start-is, length-is) (omega arith))) i (omega (arith, length-is))

@@ -2,6 +2,7 @@ use borrow.Author.Needs.{needs}
 use mathlib.Core.Path.{refl}
 use native.Mathlib.Omega.{arith}
 use native.Mathlib.Nat.{mul-le-mul}
+use Rattle.sizes.specs.Lengths.{placesMost, recordMost}
 use Rattle.archive.proofs.LoseLaws.{lose-ranged, lose-sized, places-low, records-fit, long-enough, node-emptied}
 use Rattle.archive.proofs.losing.empty_node.Statement.{statement}
 use Rattle.archive.proofs.losing.empty_node.Tie as tie
@@ -32,7 +33,7 @@ mul-zero : tie.Need-mul-zero
 mul-zero c =
     let sized = c .before .before .before .before .before .before .before .before .before in
     let high = lose-ranged _ _ (sized .before .before .before .pre) (sized .sizes-in .ensures) .places-high in
-    omega (arith, mul-le-mul {n₂ = 8} {m₂ = 1041} high (c .before .record-length .ensures .1))
+    omega (arith, mul-le-mul {n₂ = placesMost} {m₂ = recordMost} high (c .before .record-length .ensures .1))
 
 zero-requires : tie.Need-zero-requires
 zero-requires c κs =
