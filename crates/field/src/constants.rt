@@ -526,6 +526,7 @@ pub const LOGS_START: usize = 510;
 // The powers twice in a row, so that the sum of two logarithms is an index, then the logarithms.
 pub type Tables = [u8; 766];
 
+// The two constants laid out in one array.
 fn laid(powers: [u8; 255], logs: [u8; 256]) -> Tables
     ensures { λ r. ⌜ Laid powers logs r ⌝ }
 {

@@ -47,9 +47,9 @@ pub const PLACES_MOST: usize = 8;
 pub const NODES_MOST: usize = 6;
 
 // The longest record, and the longest key vector in whole keystream blocks.
-pub const RECORD_MOST: usize = 1041;
+pub const RECORD_MOST: usize = N_MOST + M_MOST + 1;
 
-pub const VECTOR_MOST: usize = 1088;
+pub const VECTOR_MOST: usize = 17 * STREAM_BLOCK_LENGTH;
 
 // n, m, the places of a node and the nodes. The scheme: n, m, M (places a box), N (boxes).
 pub struct Sizes {
