@@ -1,7 +1,7 @@
 /* The two inner loops, Setup and Unmask beside plain scalar C in one process: nanoseconds a keystream byte, a product and a call at
-   n = 1,024, and whether the results agree. Each pair is timed in turn, ROUNDS times, and the best round of each counts. PAD bytes
-   shift the code: short loops run up to three times as long where they lie badly, on either side, so bench/run tries several
-   places. */
+   n = 1,024, Setup's with one tag and with ten, and whether the results agree. Each pair is timed in turn, ROUNDS times, and the best
+   round of each counts. PAD bytes shift the code: short loops run up to three times as long where they lie badly, on either side, so
+   bench/run tries several places. */
 #include <string.h>
 
 #include "../include/span_archive.h"
@@ -19,22 +19,32 @@ enum { VECTOR = 4096, REPEATS = 2048, BYTES = 1 << 22 };
 
 void archive(const uint8_t *key);
 
-static void masks(const uint8_t *key) {
-    static uint8_t response[RESPONSE] = {0x24}, x[N - 1], y[N - 1];
-    double setup[2] = {1e30, 1e30}, unmask[2] = {1e30, 1e30};
-    int same_setup = 1, same_unmask = 1;
-    for (int i = 1; i < RESPONSE; i++) response[i] = (uint8_t)(i * 29 + 5);
+/* Setup with so many tags, on both sides. */
+static void setup(const char *what, const uint8_t *key, size_t tags) {
+    static uint8_t x[AUXILIARY(TAGS)], y[AUXILIARY(TAGS)];
+    double best[2] = {1e30, 1e30};
+    int same = 1;
     for (int r = 0; r < ROUNDS; r++) {
         uint8_t refused = 0;
-        TIMED(setup[0], refused |= span_setup(key, 32, key, 32, id, 8, N, x, N - 1));
-        TIMED(setup[1], c_setup(key, key, id, y));
-        same_setup &= !refused && memcmp(x, y, N - 1) == 0;
-        TIMED(unmask[0], refused |= span_unmask(N, id, 8, key, 32, response, RESPONSE, x, N - 2));
-        TIMED(unmask[1], c_unmask(id, key, response, y));
-        same_unmask &= !refused && memcmp(x, y, N - 2) == 0;
+        TIMED(best[0], refused |= span_setup(key, 32, key, 32, id, 8, N, tags, x, AUXILIARY(tags)));
+        TIMED(best[1], c_setup(key, key, id, tags, y));
+        same &= !refused && memcmp(x, y, AUXILIARY(tags)) == 0;
     }
-    report("setup", setup[0], setup[1], 1, same_setup);
-    report("unmask", unmask[0], unmask[1], 1, same_unmask);
+    report(what, best[0], best[1], 1, same);
+}
+
+static void unmask(const uint8_t *key) {
+    static uint8_t response[RESPONSE(1)] = {0x24}, x[N - 2], y[N - 2];
+    double best[2] = {1e30, 1e30};
+    int same = 1;
+    for (int i = 1; i < RESPONSE(1); i++) response[i] = (uint8_t)(i * 29 + 5);
+    for (int r = 0; r < ROUNDS; r++) {
+        uint8_t refused = 0;
+        TIMED(best[0], refused |= span_unmask(N, 1, id, 8, key, 32, response, RESPONSE(1), x, N - 2));
+        TIMED(best[1], c_unmask(id, key, response, y));
+        same &= !refused && memcmp(x, y, N - 2) == 0;
+    }
+    report("unmask", best[0], best[1], 1, same);
 }
 
 int main(void) {
@@ -68,7 +78,9 @@ int main(void) {
     }
     report("keystream-byte", draw[0], draw[1], BYTES, same_draw);
     report("product", product[0], product[1], (double)VECTOR * REPEATS, same_product);
-    masks(key);
+    setup("setup", key, 1);
+    setup("setup-ten-tags", key, TAGS);
+    unmask(key);
     archive(key);
     return 0;
 }

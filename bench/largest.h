@@ -1,13 +1,19 @@
-/* The largest sizes of an archive, and inputs for every operation at them. */
+/* The largest sizes of an archive, and inputs for every operation at them. The number of tags is free, up to TAGS. */
 #ifndef LARGEST_H
 #define LARGEST_H
 
 #include <stddef.h>
 #include <stdint.h>
 
-enum { N = 1024, M = 16, PLACES = 8, NODES = 6, BLOCK = N + M, RECORD = BLOCK + 1, ARCHIVE = 18 + NODES * PLACES * RECORD };
-enum { FILE_LENGTH = M * (N - 2), HELPERS = 5, Q = 8, COEFFICIENTS = HELPERS * Q * PLACES, SCRATCH = HELPERS * Q * RECORD };
-enum { MESSAGE = 13, RESPONSE = N + 14 };
+enum { N = 1024, M = 16, PLACES = 8, NODES = 6, TAGS = 10, BLOCK = N + M };
+enum { FILE_LENGTH = M * (N - 2), HELPERS = 5, Q = 8, COEFFICIENTS = HELPERS * Q * PLACES, MESSAGE = 13 };
+
+/* Lengths by the number of tags. */
+#define RECORD(tags) (BLOCK + (tags))
+#define ARCHIVE(tags) (18 + NODES * PLACES * RECORD(tags))
+#define SCRATCH(tags) (HELPERS * Q * RECORD(tags))
+#define AUXILIARY(tags) ((tags) * (N - 1))
+#define RESPONSE(tags) (N + 12 + 2 * (tags))
 
 static const uint8_t id[8] = {1, 2, 3, 4, 5, 6, 7, 8}, seed[11] = {0, 20, 40, 60, 80, 100, 120, 140, 160, 180, 200};
 static const uint8_t helpers[HELPERS] = {0, 1, 2, 3, 4}, items[PLACES] = {0, 1, 2, 3, 4, 5, 6, 7};
@@ -15,7 +21,7 @@ static const uint8_t helpers[HELPERS] = {0, 1, 2, 3, 4}, items[PLACES] = {0, 1, 
 /* The table has a row for each place; gammas and thetas are Repair's, coefficients a challenge's. Auxiliary elements are Setup's to make. */
 struct inputs {
     uint8_t file[FILE_LENGTH], padding[2 * M], table[NODES * PLACES * M], gammas[COEFFICIENTS], thetas[COEFFICIENTS];
-    uint8_t auxiliary[N - 1], coefficients[PLACES];
+    uint8_t auxiliary[AUXILIARY(TAGS)], coefficients[PLACES];
 };
 
 static inline void fill(uint8_t *out, size_t n, unsigned state) {

@@ -93,15 +93,23 @@ static inline void c_row(const uint8_t *key, const uint8_t *id, size_t i, uint8_
     c_fill(key, nonce, row, N / 64);
 }
 
-TIMED_ALONE void c_setup(const uint8_t *tag_key, const uint8_t *mask_key, const uint8_t *id, uint8_t *auxiliary) {
-    uint8_t nonce[12] = {1}, vector[N], row[N];
+/* The first 64 times count elements of the key vector of tag s. */
+static inline void key_vector(const uint8_t *key, const uint8_t *id, size_t s, uint8_t *vector, size_t count) {
+    uint8_t nonce[12] = {1, (uint8_t)s};
     memcpy(nonce + 4, id, 8);
-    c_fill(tag_key, nonce, vector, N / 64);
+    c_fill(key, nonce, vector, count);
+}
+
+TIMED_ALONE void c_setup(const uint8_t *tag_key, const uint8_t *mask_key, const uint8_t *id, size_t tags, uint8_t *auxiliary) {
+    uint8_t vectors[TAGS][N], row[N];
+    for (size_t s = 0; s < tags; s++) key_vector(tag_key, id, s, vectors[s], N / 64);
     for (size_t i = 0; i < N - 1; i++) {
-        uint8_t total = 0;
         c_row(mask_key, id, i, row);
-        for (size_t e = 0; e < N - 2; e++) total ^= c_multiply(row[e], vector[e]);
-        auxiliary[i] = total;
+        for (size_t s = 0; s < tags; s++) {
+            uint8_t total = 0;
+            for (size_t e = 0; e < N - 2; e++) total ^= c_multiply(row[e], vectors[s][e]);
+            auxiliary[s * (N - 1) + i] = total;
+        }
     }
 }
 
@@ -116,7 +124,10 @@ TIMED_ALONE void c_unmask(const uint8_t *id, const uint8_t *mask_key, const uint
     }
 }
 
-static uint8_t *record(uint8_t *archive, size_t k) { return archive + 18 + k * RECORD; }
+/* The number of tags that a header says: one under layout 1. */
+static size_t tags_in(const uint8_t *archive) { return archive[0] >> 4 == 1 ? 1 : archive[3] >> 1 & 15; }
+
+static uint8_t *record(uint8_t *archive, size_t k) { return archive + 18 + k * RECORD(tags_in(archive)); }
 
 static void mark(uint8_t *archive, size_t k) { archive[12 + k / 8] |= (uint8_t)(128 >> k % 8); }
 
@@ -131,49 +142,49 @@ static void add(uint8_t c, const uint8_t *u, uint8_t *out, size_t n) {
     for (size_t e = 0; e < n; e++) out[e] ^= c_multiply(c, u[e]);
 }
 
-static void key_vector(const uint8_t *key, uint8_t *vector) {
-    uint8_t nonce[12] = {1};
-    memcpy(nonce + 4, id, 8);
-    c_fill(key, nonce, vector, (BLOCK + 63) / 64);
-}
-
-void c_open(uint8_t *archive) {
+void c_open(size_t layout, size_t tags, uint8_t *archive) {
     size_t at = 0;
-    memset(archive, 0, ARCHIVE);
-    put(archive, &at, 4, 1), put(archive, &at, 11, N), put(archive, &at, 5, M), put(archive, &at, 4, PLACES), put(archive, &at, 3, NODES);
+    memset(archive, 0, ARCHIVE(tags));
+    put(archive, &at, 4, layout), put(archive, &at, 11, N), put(archive, &at, 5, M), put(archive, &at, 4, PLACES);
+    put(archive, &at, 3, NODES), put(archive, &at, 4, layout == 1 ? 0 : tags);
     memcpy(archive + 4, id, 8);
 }
 
 TIMED_ALONE void c_encode(uint8_t *archive, size_t k, const uint8_t *key, const uint8_t *row) {
-    uint8_t vector[BLOCK + 64], tag = 0, *to = record(archive, k);
-    memset(to, 0, RECORD);
+    uint8_t vector[BLOCK + 64], *to = record(archive, k);
+    size_t tags = tags_in(archive);
+    memset(to, 0, RECORD(tags));
     for (size_t i = 0; i < M; i++) {
         add(row[i], inputs.file + i * (N - 2), to, N - 2);
         add(row[i], inputs.padding + 2 * i, to + N - 2, 2);
     }
     memcpy(to + N, row, M);
-    key_vector(key, vector);
-    for (size_t e = 0; e < BLOCK; e++) tag ^= c_multiply(to[e], vector[e]);
-    to[BLOCK] = tag;
+    for (size_t s = 0; s < tags; s++) {
+        uint8_t tag = 0;
+        key_vector(key, id, s, vector, (BLOCK + 63) / 64);
+        for (size_t e = 0; e < BLOCK; e++) tag ^= c_multiply(to[e], vector[e]);
+        to[BLOCK + s] = tag;
+    }
     mark(archive, k);
 }
 
 TIMED_ALONE void c_repair(uint8_t *archive, size_t target, const uint8_t *helpers, uint8_t *scratch) {
-    memset(scratch, 0, SCRATCH);
+    size_t len = RECORD(tags_in(archive));
+    memset(scratch, 0, HELPERS * Q * len);
     for (size_t t = 0; t < HELPERS * Q; t++)
         for (size_t l = 0; l < PLACES; l++)
-            add(inputs.gammas[t * PLACES + l], record(archive, helpers[t / Q] * PLACES + l), scratch + t * RECORD, RECORD);
+            add(inputs.gammas[t * PLACES + l], record(archive, helpers[t / Q] * PLACES + l), scratch + t * len, len);
     for (size_t k = 0; k < PLACES; k++) {
         uint8_t *to = record(archive, target * PLACES + k);
-        memset(to, 0, RECORD);
-        for (size_t t = 0; t < HELPERS * Q; t++) add(inputs.thetas[t * PLACES + k], scratch + t * RECORD, to, RECORD);
+        memset(to, 0, len);
+        for (size_t t = 0; t < HELPERS * Q; t++) add(inputs.thetas[t * PLACES + k], scratch + t * len, to, len);
         mark(archive, target * PLACES + k);
     }
 }
 
 void c_lose(uint8_t *archive, size_t node) {
     for (size_t k = node * PLACES; k < (node + 1) * PLACES; k++) archive[12 + k / 8] &= (uint8_t)~(128 >> k % 8);
-    memset(record(archive, node * PLACES), 0, PLACES * RECORD);
+    memset(record(archive, node * PLACES), 0, PLACES * RECORD(tags_in(archive)));
 }
 
 void c_challenge(size_t node, const uint8_t *coefficients, uint8_t *message) {
@@ -185,31 +196,36 @@ void c_challenge(size_t node, const uint8_t *coefficients, uint8_t *message) {
 
 TIMED_ALONE void c_prove(uint8_t *archive, size_t node, const uint8_t *coefficients, const uint8_t *mask_key, const uint8_t *seed,
                          uint8_t *response) {
-    uint8_t combined[RECORD] = {0}, nonce[12] = {3}, drawn[N], row[N], sum = 0;
-    for (size_t j = 0; j < PLACES; j++) add(coefficients[j], record(archive, node * PLACES + j), combined, RECORD);
+    uint8_t combined[RECORD(TAGS)] = {0}, nonce[12] = {3}, drawn[N], row[N], sums[TAGS] = {0};
+    size_t tags = tags_in(archive);
+    for (size_t j = 0; j < PLACES; j++) add(coefficients[j], record(archive, node * PLACES + j), combined, RECORD(tags));
     memcpy(nonce + 1, seed, 11);
     c_fill(mask_key, nonce, drawn, N / 64);
     for (size_t i = 0; i < N - 1; i++) {
         c_row(mask_key, id, i, row);
         add(drawn[i], row, combined, N - 2);
-        sum ^= c_multiply(drawn[i], inputs.auxiliary[i]);
+        for (size_t s = 0; s < tags; s++) sums[s] ^= c_multiply(drawn[i], inputs.auxiliary[s * (N - 1) + i]);
     }
     response[0] = (uint8_t)(0x20 | node << 1);
     memcpy(response + 1, combined, N - 2);
     memcpy(response + N - 1, seed, 11);
-    response[N + 10] = sum;
-    memcpy(response + N + 11, combined + N - 2, 2);
-    response[N + 13] = combined[BLOCK];
+    memcpy(response + N + 10, sums, tags);
+    memcpy(response + N + 10 + tags, combined + N - 2, 2);
+    memcpy(response + N + 12 + tags, combined + BLOCK, tags);
 }
 
-TIMED_ALONE uint8_t c_verdict(const uint8_t *key, const uint8_t *rows, const uint8_t *coefficients, const uint8_t *response) {
-    uint8_t vector[BLOCK + 64], data[BLOCK] = {0}, total = 0;
+TIMED_ALONE uint8_t c_verdict(const uint8_t *key, size_t tags, const uint8_t *rows, const uint8_t *coefficients, const uint8_t *response) {
+    uint8_t vector[BLOCK + 64], data[BLOCK] = {0};
     memcpy(data, response + 1, N - 2);
-    memcpy(data + N - 2, response + N + 11, 2);
+    memcpy(data + N - 2, response + N + 10 + tags, 2);
     for (size_t j = 0; j < PLACES; j++) add(coefficients[j], rows + j * M, data + N, M);
-    key_vector(key, vector);
-    for (size_t e = 0; e < BLOCK; e++) total ^= c_multiply(data[e], vector[e]);
-    return total == (response[N + 13] ^ response[N + 10]) ? 0 : 255;
+    for (size_t s = 0; s < tags; s++) {
+        uint8_t total = response[N + 12 + tags + s] ^ response[N + 10 + s];
+        key_vector(key, id, s, vector, (BLOCK + 63) / 64);
+        for (size_t e = 0; e < BLOCK; e++) total ^= c_multiply(data[e], vector[e]);
+        if (total) return 255;
+    }
+    return 0;
 }
 
 size_t c_inventory(const uint8_t *archive, uint8_t *list) {

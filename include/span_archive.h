@@ -6,12 +6,12 @@
    scheme; a node is what it calls a box.
 
    Threads: the library has no writable data of its own, so calls on different buffers may run at once. Alignment: none is asked for. Stack: below
-   12 KiB at the largest sizes (measured by tests/run, not proved). Mapped memory: an archive may be a mapped file; a fault in it is the caller's.
+   17 KiB at the largest sizes (measured by tests/run, not proved). Mapped memory: an archive may be a mapped file; a fault in it is the caller's.
    Timing: it depends on lengths, sizes, marks, rows, coefficients and data; nothing is constant-time.
 
-   The bytes of an archive: 4 of packed sizes (layout 1 in 4 bits, n in 11, m in 5, places in 4, nodes in 3, five zero bits), the id from byte 4,
-   48 fill marks from byte 12 (that of node b, place p is bit b*places+p, from the top), then from byte 18 on nodes*places records of n+m+1 bytes:
-   n data elements, the row of m, the tag. */
+   The bytes of an archive: 4 of packed sizes (the layout in 4 bits, n in 11, m in 5, places in 4, nodes in 3; then under layout 2 the tags in 4
+   and a zero bit, under layout 1, which has one tag, five zero bits), the id from byte 4, 48 fill marks from byte 12 (that of node b, place p is
+   bit b*places+p, from the top), then from byte 18 on nodes*places records of n+m+tags bytes: n data elements, the row of m, the tags. */
 #ifndef SPAN_ARCHIVE_H
 #define SPAN_ARCHIVE_H
 
@@ -20,13 +20,14 @@
 
 /* Answers. */
 #define SPAN_DONE 0
-#define SPAN_WRONG_SIZE 1     /* a size outside its range: n 3 to 1,024, m 1 to 16, places 1 to 8, nodes 1 to 6 */
+#define SPAN_WRONG_SIZE 1     /* a size outside its range: layout 1 or 2, n 3 to 1,024, m 1 to 16, places 1 to 8, nodes 1 to 6, tags 1 to 10
+                                 (1 under layout 1), s 0 to 9 */
 #define SPAN_WRONG_LENGTH 2   /* a buffer that has not exactly its length */
 #define SPAN_BAD_ARCHIVE 3
 #define SPAN_NO_SUCH_PLACE 4  /* nor node */
 #define SPAN_PLACE_EMPTY 5    /* a place that is needed */
 #define SPAN_PLACE_FILLED 6   /* a place that would be filled */
-#define SPAN_ZERO_KEY 7       /* a tag key whose first n-2 key elements are zero */
+#define SPAN_ZERO_KEY 7       /* a tag key with a key vector, of one of the tags, whose first n-2 elements are zero */
 #define SPAN_UNREADABLE 8     /* the filled rows do not determine the file */
 #define SPAN_MALFORMED 9      /* a message, or fields that no challenge has */
 #define SPAN_ZERO_INVERSE 10
@@ -39,16 +40,16 @@
 #define SPAN_ID_BYTES 8
 #define SPAN_SEED_BYTES 11
 #define SPAN_VECTOR_BYTES(n, m) ((n) + (m))
-#define SPAN_AUXILIARY_BYTES(n) ((n)-1)
+#define SPAN_AUXILIARY_BYTES(n, tags) ((tags) * ((n)-1))
 #define SPAN_FILE_BYTES(n, m) ((m) * ((n)-2))
 #define SPAN_PADDING_BYTES(m) (2 * (m))
-#define SPAN_RECORD_BYTES(n, m) ((n) + (m) + 1)
-#define SPAN_ARCHIVE_BYTES(n, m, places, nodes) (18 + (nodes) * (places)*SPAN_RECORD_BYTES(n, m))
+#define SPAN_RECORD_BYTES(n, m, tags) ((n) + (m) + (tags))
+#define SPAN_ARCHIVE_BYTES(n, m, places, nodes, tags) (18 + (nodes) * (places)*SPAN_RECORD_BYTES(n, m, tags))
 #define SPAN_COEFFICIENT_BYTES(helpers, q, places) ((helpers) * (q) * (places))
-#define SPAN_SCRATCH_BYTES(helpers, q, n, m) ((helpers) * (q)*SPAN_RECORD_BYTES(n, m))
+#define SPAN_SCRATCH_BYTES(helpers, q, n, m, tags) ((helpers) * (q)*SPAN_RECORD_BYTES(n, m, tags))
 #define SPAN_CHALLENGE_BYTES(count) ((11 * ((count) + 1) + 7) / 8)
 #define SPAN_ROWS_BYTES(places, m) ((places) * (m))
-#define SPAN_RESPONSE_BYTES(n) ((n) + 14)
+#define SPAN_RESPONSE_BYTES(n, tags) ((n) + 12 + 2 * (tags))
 
 #ifdef __cplusplus
 extern "C" {
@@ -64,20 +65,20 @@ uint8_t span_inverse(uint8_t a, uint8_t *out);
 uint8_t span_block(const uint8_t *key, size_t key_len, uint32_t counter, const uint8_t *nonce, size_t nonce_len, uint8_t *out,
                    size_t out_len);
 
-/* The n+m elements of the key vector. Refuses 1, 2. */
-uint8_t span_vector(const uint8_t *tag_key, size_t tag_key_len, const uint8_t *id, size_t id_len, size_t n, size_t m, uint8_t *out,
-                    size_t out_len);
+/* The n+m elements of the key vector of tag s, from 0. Refuses 1, 2. */
+uint8_t span_vector(const uint8_t *tag_key, size_t tag_key_len, const uint8_t *id, size_t id_len, size_t n, size_t m, size_t s,
+                    uint8_t *out, size_t out_len);
 
-/* A new archive of 18+nodes*places*(n+m+1) bytes, all places empty. Refuses 1, 2. */
-uint8_t span_open(size_t n, size_t m, size_t places, size_t nodes, const uint8_t *id, size_t id_len, uint8_t *archive,
-                  size_t archive_len);
+/* A new archive of 18+nodes*places*(n+m+tags) bytes, all places empty. Refuses 1, 2. */
+uint8_t span_open(size_t layout, size_t n, size_t m, size_t places, size_t nodes, size_t tags, const uint8_t *id, size_t id_len,
+                  uint8_t *archive, size_t archive_len);
 
-/* The n-1 auxiliary elements. Refuses 1, 2, 7. */
+/* The n-1 auxiliary elements of each tag, tag by tag. Refuses 1, 2, 7. */
 uint8_t span_setup(const uint8_t *tag_key, size_t tag_key_len, const uint8_t *mask_key, size_t mask_key_len, const uint8_t *id,
-                   size_t id_len, size_t n, uint8_t *auxiliary, size_t auxiliary_len);
+                   size_t id_len, size_t n, size_t tags, uint8_t *auxiliary, size_t auxiliary_len);
 
 /* Fills a place with the source blocks, of a file of m(n-2) bytes and a padding of 2m, combined by a row of m bytes, and that block's
-   tag. Refuses 3, 2, 4, 6. */
+   tags. Refuses 3, 2, 4, 6. */
 uint8_t span_encode(uint8_t *archive, size_t archive_len, size_t node, size_t place, const uint8_t *file, size_t file_len,
                     const uint8_t *padding, size_t padding_len, const uint8_t *tag_key, size_t tag_key_len, const uint8_t *row,
                     size_t row_len);
@@ -86,7 +87,7 @@ uint8_t span_encode(uint8_t *archive, size_t archive_len, size_t node, size_t pl
 uint8_t span_lose(uint8_t *archive, size_t archive_len, size_t node);
 
 /* Fills all places of a node from 1 to 5 helpers, a byte each, with q (1 to 8) repair blocks a helper. Gammas and thetas are
-   helpers*q*places bytes each, scratch helpers*q*(n+m+1), which then holds the repair blocks with tags. Refuses 3, 1, 2, 4, 6, 5. */
+   helpers*q*places bytes each, scratch helpers*q*(n+m+tags), which then holds the repair blocks with tags. Refuses 3, 1, 2, 4, 6, 5. */
 uint8_t span_repair(uint8_t *archive, size_t archive_len, size_t target, const uint8_t *helpers, size_t helpers_len, size_t q,
                     const uint8_t *gammas, size_t gammas_len, const uint8_t *thetas, size_t thetas_len, uint8_t *scratch,
                     size_t scratch_len);
@@ -96,22 +97,23 @@ uint8_t span_repair(uint8_t *archive, size_t archive_len, size_t target, const u
 uint8_t span_challenge(size_t node, const uint8_t *places, size_t places_len, const uint8_t *coefficients, size_t coefficients_len,
                        uint8_t *message, size_t message_len);
 
-/* The response of n+14 bytes to a challenge, masked by a seed of 11 bytes, with Setup's auxiliary elements. The box draws the seed, afresh
-   for each call: two responses under one seed give stored bytes away. The row at a block's end is in no response. Refuses 3, 9, 2, 4, 5. */
+/* The response of n+12+2*tags bytes to a challenge, masked by a seed of 11 bytes, with Setup's auxiliary elements for as many tags as the
+   archive has. The box draws the seed, afresh for each call: two responses under one seed give stored bytes away. The row at a block's end is
+   in no response. Refuses 3, 9, 2, 4, 5. */
 uint8_t span_prove(const uint8_t *archive, size_t archive_len, const uint8_t *mask_key, size_t mask_key_len, const uint8_t *auxiliary,
                    size_t auxiliary_len, const uint8_t *seed, size_t seed_len, const uint8_t *message, size_t message_len,
                    uint8_t *response, size_t response_len);
 
-/* 0 for accepted, 255 for rejected, else the refusal, which speaks of the call and not of the box. The rows are those of the challenged
-   node, places*m bytes, zeros for empty places; they come from the owner, never from the box. Refuses 1, 9, 2, 4, 9 (the response's first
-   byte). */
+/* 0 for accepted, where every tag agrees, 255 for rejected, else the refusal, which speaks of the call and not of the box. The rows are those
+   of the challenged node, places*m bytes, zeros for empty places; they come from the owner, never from the box. Refuses 1, 9, 2, 4, 9 (the
+   response's first byte). */
 uint8_t span_verdict(const uint8_t *tag_key, size_t tag_key_len, const uint8_t *id, size_t id_len, size_t n, size_t m, size_t places,
-                     size_t nodes, const uint8_t *rows, size_t rows_len, const uint8_t *message, size_t message_len,
+                     size_t nodes, size_t tags, const uint8_t *rows, size_t rows_len, const uint8_t *message, size_t message_len,
                      const uint8_t *response, size_t response_len);
 
 /* The n-2 bytes that a response hides. Refuses 1, 2, 9. */
-uint8_t span_unmask(size_t n, const uint8_t *id, size_t id_len, const uint8_t *mask_key, size_t mask_key_len, const uint8_t *response,
-                    size_t response_len, uint8_t *out, size_t out_len);
+uint8_t span_unmask(size_t n, size_t tags, const uint8_t *id, size_t id_len, const uint8_t *mask_key, size_t mask_key_len,
+                    const uint8_t *response, size_t response_len, uint8_t *out, size_t out_len);
 
 /* For every filled place, just once and in any order, 8 times its node plus the place; zeros up to nodes*places bytes. Their number into
    *count. Refuses 3, 2. */

@@ -1,70 +1,82 @@
-/* A life at the largest sizes through the exported functions: every answer and every byte beside plain C (bench/plain.c), with guards
-   around each buffer. Ends with status 0 where all agree. */
+/* Lives at the largest sizes through the exported functions, with one tag under layout 1 and with ten under layout 2: every answer and
+   every byte beside plain C (bench/plain.c), with guards around each buffer. Ends with status 0 where all agree. */
 #include "../bench/plain.h"
 #include "../include/span_archive.h"
 #include "expect.h"
 
-static uint8_t tag_key[32], mask_key[32], theirs[ARCHIVE], *ours;
+static uint8_t tag_key[32], mask_key[32], theirs[ARCHIVE(TAGS)], *ours;
+static size_t tags;
 
-static void same_archive(const char *what) { expect(what, !memcmp(ours, theirs, ARCHIVE)); }
+static void same_archive(const char *what) { expect(what, !memcmp(ours, theirs, ARCHIVE(tags))); }
 
 /* Open; Encode of each place of nodes 0 to 4; Repair of node 5 by them. */
-static void fill_all(void) {
-    static uint8_t blocks[SCRATCH];
-    uint8_t *scratch = lend(NULL, SCRATCH);
-    answer("open", 0, span_open(N, M, PLACES, NODES, id, 8, ours, ARCHIVE));
-    c_open(theirs);
+static void fill_all(size_t layout) {
+    static uint8_t blocks[SCRATCH(TAGS)];
+    uint8_t *scratch = lend(NULL, SCRATCH(tags));
+    answer("open", 0, span_open(layout, N, M, PLACES, NODES, tags, id, 8, ours, ARCHIVE(tags)));
+    c_open(layout, tags, theirs);
     same_archive("the new archive");
     for (size_t k = 0; k < HELPERS * PLACES; k++) {
         const uint8_t *row = inputs.table + k * M;
-        answer("encode", 0, span_encode(ours, ARCHIVE, k / PLACES, k % PLACES, inputs.file, FILE_LENGTH, inputs.padding, 2 * M, tag_key, 32,
-                                        row, M));
+        answer("encode", 0, span_encode(ours, ARCHIVE(tags), k / PLACES, k % PLACES, inputs.file, FILE_LENGTH, inputs.padding, 2 * M,
+                                        tag_key, 32, row, M));
         c_encode(theirs, k, tag_key, row);
         same_archive("the archive after encode");
     }
-    answer("repair", 0, span_repair(ours, ARCHIVE, 5, helpers, HELPERS, Q, inputs.gammas, COEFFICIENTS, inputs.thetas, COEFFICIENTS, scratch,
-                                    SCRATCH));
+    answer("repair", 0, span_repair(ours, ARCHIVE(tags), 5, helpers, HELPERS, Q, inputs.gammas, COEFFICIENTS, inputs.thetas, COEFFICIENTS,
+                                    scratch, SCRATCH(tags)));
     c_repair(theirs, 5, helpers, blocks);
-    expect("the repair blocks", !memcmp(scratch, blocks, SCRATCH));
+    expect("the repair blocks", !memcmp(scratch, blocks, SCRATCH(tags)));
     same_archive("the archive after repair");
-    give_back("repair's scratch", scratch, SCRATCH);
+    give_back("repair's scratch", scratch, SCRATCH(tags));
 }
 
 static void setup(void) {
-    uint8_t *auxiliary = lend(NULL, N - 1);
-    answer("setup", 0, span_setup(tag_key, 32, mask_key, 32, id, 8, N, auxiliary, N - 1));
-    c_setup(tag_key, mask_key, id, inputs.auxiliary);
-    expect("the auxiliary elements", !memcmp(auxiliary, inputs.auxiliary, N - 1));
-    give_back("setup's elements", auxiliary, N - 1);
+    uint8_t *auxiliary = lend(NULL, AUXILIARY(tags));
+    answer("setup", 0, span_setup(tag_key, 32, mask_key, 32, id, 8, N, tags, auxiliary, AUXILIARY(tags)));
+    c_setup(tag_key, mask_key, id, tags, inputs.auxiliary);
+    expect("the auxiliary elements", !memcmp(auxiliary, inputs.auxiliary, AUXILIARY(tags)));
+    give_back("setup's elements", auxiliary, AUXILIARY(tags));
 }
 
 /* Verdict on a response, with the rows that the node's records have. */
 static void judge(unsigned expected, size_t node, const uint8_t *message, const uint8_t *response) {
     uint8_t rows[PLACES * M];
-    for (size_t k = 0; k < PLACES; k++) memcpy(rows + k * M, theirs + 18 + (node * PLACES + k) * RECORD + N, M);
-    answer("plain verdict", expected, c_verdict(tag_key, rows, inputs.coefficients, response));
+    for (size_t k = 0; k < PLACES; k++) memcpy(rows + k * M, theirs + 18 + (node * PLACES + k) * RECORD(tags) + N, M);
+    answer("plain verdict", expected, c_verdict(tag_key, tags, rows, inputs.coefficients, response));
     answer("verdict", expected,
-           span_verdict(tag_key, 32, id, 8, N, M, PLACES, NODES, rows, PLACES * M, message, MESSAGE, response, RESPONSE));
+           span_verdict(tag_key, 32, id, 8, N, M, PLACES, NODES, tags, rows, PLACES * M, message, MESSAGE, response, RESPONSE(tags)));
 }
 
-/* Challenge of all places of a node, Prove, Verdict and Unmask; and Verdict on a response that was changed. */
+/* Verdict on a response with one byte changed. */
+static void judge_changed(size_t node, const uint8_t *message, uint8_t *response, size_t at) {
+    response[at] ^= 1;
+    judge(255, node, message, response);
+    response[at] ^= 1;
+}
+
+/* Challenge of all places of a node, Prove, Verdict and Unmask; and Verdict on a masked byte, a mask sum and a tag that were changed. */
 static void audit(size_t node) {
-    uint8_t *message = lend(NULL, MESSAGE), *response = lend(NULL, RESPONSE), *block = lend(NULL, N - 2);
-    uint8_t asked[MESSAGE], plain[RESPONSE], bare[N - 2];
+    uint8_t *message = lend(NULL, MESSAGE), *response = lend(NULL, RESPONSE(tags)), *block = lend(NULL, N - 2);
+    uint8_t asked[MESSAGE], plain[RESPONSE(TAGS)], bare[N - 2];
     answer("challenge", 0, span_challenge(node, items, PLACES, inputs.coefficients, PLACES, message, MESSAGE));
     c_challenge(node, inputs.coefficients, asked);
     expect("the challenge", !memcmp(message, asked, MESSAGE));
-    answer("prove", 0, span_prove(ours, ARCHIVE, mask_key, 32, inputs.auxiliary, N - 1, seed, 11, message, MESSAGE, response, RESPONSE));
+    answer("prove", 0, span_prove(ours, ARCHIVE(tags), mask_key, 32, inputs.auxiliary, AUXILIARY(tags), seed, 11, message, MESSAGE,
+                                  response, RESPONSE(tags)));
     c_prove(theirs, node, inputs.coefficients, mask_key, seed, plain);
-    expect("the response", !memcmp(response, plain, RESPONSE));
+    expect("the response", !memcmp(response, plain, RESPONSE(tags)));
     judge(0, node, message, response);
-    answer("unmask", 0, span_unmask(N, id, 8, mask_key, 32, response, RESPONSE, block, N - 2));
+    answer("unmask", 0, span_unmask(N, tags, id, 8, mask_key, 32, response, RESPONSE(tags), block, N - 2));
     c_unmask(id, mask_key, plain, bare);
     expect("the unmasked bytes", !memcmp(block, bare, N - 2));
-    response[1] ^= 1;
-    judge(255, node, message, response);
+    judge_changed(node, message, response, 1);
+    for (size_t s = 0; s < tags; s++) {
+        judge_changed(node, message, response, N + 10 + s);
+        judge_changed(node, message, response, N + 12 + tags + s);
+    }
     give_back("challenge's message", message, MESSAGE);
-    give_back("prove's response", response, RESPONSE);
+    give_back("prove's response", response, RESPONSE(tags));
     give_back("unmask's block", block, N - 2);
 }
 
@@ -75,32 +87,38 @@ static void list_and_read(void) {
     size_t filled = c_inventory(theirs, listed), taken;
     memcpy(plain, file, FILE_LENGTH);
     taken = c_read(theirs, plain);
-    answer("inventory", 0, span_inventory(ours, ARCHIVE, list, NODES * PLACES, &count));
+    answer("inventory", 0, span_inventory(ours, ARCHIVE(tags), list, NODES * PLACES, &count));
     expect("the list", count == filled && !memcmp(list, listed, NODES * PLACES));
-    answer("read", filled < M ? 8 : 0, span_read(ours, ARCHIVE, file, FILE_LENGTH, &consulted));
+    answer("read", filled < M ? 8 : 0, span_read(ours, ARCHIVE(tags), file, FILE_LENGTH, &consulted));
     expect("the file", consulted == taken && !memcmp(file, plain, FILE_LENGTH));
     expect("the file as it was encoded", filled < M || !memcmp(file, inputs.file, FILE_LENGTH));
     give_back("inventory's list", list, NODES * PLACES);
     give_back("read's file", file, FILE_LENGTH);
 }
 
-int main(void) {
-    c_start();
-    for (int i = 0; i < 32; i++) tag_key[i] = (uint8_t)i, mask_key[i] = (uint8_t)(100 + i);
-    ours = lend(NULL, ARCHIVE);
+/* Node by node is lost at its end: at last the file comes from node 4 and the rebuilt node 5, and then no more. */
+static void live(size_t layout, size_t with) {
+    tags = with;
+    ours = lend(NULL, ARCHIVE(tags));
     setup();
-    fill_all();
+    fill_all(layout);
     audit(0);
     audit(5);
-    /* Node by node is lost: at last the file comes from node 4 and the rebuilt node 5, and then no more. */
     for (size_t node = 0; node < NODES; node++) {
         list_and_read();
-        answer("lose", 0, span_lose(ours, ARCHIVE, node));
+        answer("lose", 0, span_lose(ours, ARCHIVE(tags), node));
         c_lose(theirs, node);
         same_archive("the archive after lose");
     }
     list_and_read();
-    give_back("the archive", ours, ARCHIVE);
-    if (!failures) puts("a life at the largest sizes through the C library: every answer and every byte as in plain C");
+    give_back("the archive", ours, ARCHIVE(tags));
+}
+
+int main(void) {
+    c_start();
+    for (int i = 0; i < 32; i++) tag_key[i] = (uint8_t)i, mask_key[i] = (uint8_t)(100 + i);
+    live(1, 1);
+    live(2, TAGS);
+    if (!failures) puts("lives at the largest sizes through the C library: every answer and every byte as in plain C");
     return failures != 0;
 }

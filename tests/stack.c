@@ -1,5 +1,5 @@
-/* How deep each operation goes on the stack at the largest sizes: it runs on a stack of its own that was painted before. Ends with status 0
-   where every operation is done and stays within LIMIT bytes. */
+/* How deep each operation goes on the stack at the largest sizes, with ten tags: it runs on a stack of its own that was painted before.
+   Ends with status 0 where every operation is done and stays within LIMIT bytes. */
 #define _XOPEN_SOURCE 700
 #include <stdio.h>
 #include <string.h>
@@ -8,40 +8,42 @@
 #include "../bench/largest.h"
 #include "../include/span_archive.h"
 
-enum { LIMIT = 12 * 1024, PAINT = 0xa5 };
+enum { LIMIT = 17 * 1024, PAINT = 0xa5 };
 
 static const uint8_t tag_key[32] = {3}, mask_key[32] = {4}, nonce[12] = {2};
 static struct inputs inputs;
-static uint8_t archive[ARCHIVE], scratch[SCRATCH], message[MESSAGE], response[RESPONSE], out[FILE_LENGTH], count;
+static uint8_t archive[ARCHIVE(TAGS)], scratch[SCRATCH(TAGS)], message[MESSAGE], response[RESPONSE(TAGS)], out[FILE_LENGTH], count;
 
 static uint8_t multiply(void) { return span_multiply(2, 3) != 6; }
 static uint8_t inverse(void) { return span_inverse(2, &count); }
 static uint8_t block(void) { return span_block(tag_key, 32, 1, nonce, 12, out, 64); }
-static uint8_t vector(void) { return span_vector(tag_key, 32, id, 8, N, M, out, N + M); }
-static uint8_t open_(void) { return span_open(N, M, PLACES, NODES, id, 8, archive, ARCHIVE); }
-static uint8_t setup(void) { return span_setup(tag_key, 32, mask_key, 32, id, 8, N, inputs.auxiliary, N - 1); }
+static uint8_t vector(void) { return span_vector(tag_key, 32, id, 8, N, M, TAGS - 1, out, N + M); }
+static uint8_t open_(void) { return span_open(2, N, M, PLACES, NODES, TAGS, id, 8, archive, ARCHIVE(TAGS)); }
+static uint8_t setup(void) { return span_setup(tag_key, 32, mask_key, 32, id, 8, N, TAGS, inputs.auxiliary, AUXILIARY(TAGS)); }
 static uint8_t encode(void) {
     uint8_t refused = 0;
     for (size_t k = 0; k < HELPERS * PLACES; k++)
-        refused |= span_encode(archive, ARCHIVE, k / PLACES, k % PLACES, inputs.file, FILE_LENGTH, inputs.padding, 2 * M, tag_key, 32,
+        refused |= span_encode(archive, ARCHIVE(TAGS), k / PLACES, k % PLACES, inputs.file, FILE_LENGTH, inputs.padding, 2 * M, tag_key, 32,
                                inputs.table + k * M, M);
     return refused;
 }
 static uint8_t repair(void) {
-    return span_repair(archive, ARCHIVE, HELPERS, helpers, HELPERS, Q, inputs.gammas, COEFFICIENTS, inputs.thetas, COEFFICIENTS, scratch,
-                       SCRATCH);
+    return span_repair(archive, ARCHIVE(TAGS), HELPERS, helpers, HELPERS, Q, inputs.gammas, COEFFICIENTS, inputs.thetas, COEFFICIENTS,
+                       scratch, SCRATCH(TAGS));
 }
 static uint8_t challenge(void) { return span_challenge(0, items, PLACES, inputs.coefficients, PLACES, message, MESSAGE); }
 static uint8_t prove(void) {
-    return span_prove(archive, ARCHIVE, mask_key, 32, inputs.auxiliary, N - 1, seed, 11, message, MESSAGE, response, RESPONSE);
+    return span_prove(archive, ARCHIVE(TAGS), mask_key, 32, inputs.auxiliary, AUXILIARY(TAGS), seed, 11, message, MESSAGE, response,
+                      RESPONSE(TAGS));
 }
 static uint8_t verdict(void) {
-    return span_verdict(tag_key, 32, id, 8, N, M, PLACES, NODES, inputs.table, PLACES * M, message, MESSAGE, response, RESPONSE);
+    return span_verdict(tag_key, 32, id, 8, N, M, PLACES, NODES, TAGS, inputs.table, PLACES * M, message, MESSAGE, response,
+                        RESPONSE(TAGS));
 }
-static uint8_t unmask(void) { return span_unmask(N, id, 8, mask_key, 32, response, RESPONSE, out, N - 2); }
-static uint8_t inventory(void) { return span_inventory(archive, ARCHIVE, out, NODES * PLACES, &count); }
-static uint8_t read_(void) { return span_read(archive, ARCHIVE, out, FILE_LENGTH, &count); }
-static uint8_t lose(void) { return span_lose(archive, ARCHIVE, 0); }
+static uint8_t unmask(void) { return span_unmask(N, TAGS, id, 8, mask_key, 32, response, RESPONSE(TAGS), out, N - 2); }
+static uint8_t inventory(void) { return span_inventory(archive, ARCHIVE(TAGS), out, NODES * PLACES, &count); }
+static uint8_t read_(void) { return span_read(archive, ARCHIVE(TAGS), out, FILE_LENGTH, &count); }
+static uint8_t lose(void) { return span_lose(archive, ARCHIVE(TAGS), 0); }
 
 static const struct {
     const char *name;

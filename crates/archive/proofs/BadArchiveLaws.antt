@@ -14,7 +14,7 @@ use Rattle.bits.specs.Fields.{fieldAt}
 use Rattle.sizes.specs.declared.Sizes.{Sizes}
 use Rattle.sizes.specs.Sizes.{sizesOutside}
 use Rattle.sizes.specs.Lengths.{placeCount, archiveLength}
-use Rattle.archive.specs.Layout.{sizesOf, markAt, badFor, badArchive}
+use Rattle.archive.specs.Layout.{layoutOutside, tagField, layoutOf, sizesOf, markAt, badFor, badArchive}
 
 -- mark k is set, and belongs to none of the first `count` places; the same, as code tests it
 abbrev pub spareMark : List ℕ → ℕ → ℕ → Bool
@@ -26,22 +26,28 @@ spare-tested s count k e h = sym (both-pick (leb count k) (markAt s k)) ∙ (rw 
 -- fewer than 18 bytes are no archive
 pub too-short : (s : List ℕ) → length s < 18 → badArchive s ≡ true
 unfolding badFor
-too-short s h = any-there _ _ (any-there _ _ (any-there _ _ (any-there _ _ (any-here _ _ (differs-other (λ (e : length s ≡ archiveLength (sizesOf s)). omega arith))))))
+too-short s h =
+    any-there _ _ (any-there _ _ (any-there _ _ (any-there _ _ (any-there _ _ (any-here _ _
+    (differs-other (λ (e : length s ≡ archiveLength (sizesOf s)). omega arith)))))))
 
-module _ (s : List ℕ) {z : Sizes} {layout spare : ℕ} {outside : Bool}
-    (sizes : z ≡ sizesOf s) (first : layout ≡ fieldAt s 0 4) (last : spare ≡ fieldAt s 27 5) (ranges : outside ≡ sizesOutside z) where
+module _ (s : List ℕ) {z : Sizes} {layout field spare said : ℕ} {wrong outside : Bool}
+    (sizes : z ≡ sizesOf s) (first : layout ≡ fieldAt s 0 4) (told : field ≡ fieldAt s 27 4) (last : spare ≡ fieldAt s 31 1)
+    (layouts : wrong ≡ layoutOutside layout (z .tags)) (ranges : outside ≡ sizesOutside z) (says : said ≡ tagField layout (z .tags)) where
   abbrev header : Bool
-  header = (differs layout 1 || outside) || differs spare 0
+  header = ((wrong || outside) || differs field said) || differs spare 0
 
   tests : badArchive s ≡ anyOf (header ∷ anyBelow 48 (spareMark s (placeCount z)) ∷ differs (length s) (archiveLength z) ∷ [])
-  unfolding badFor
-  tests = rw (any-of (differs layout 1) (outside ∷ differs spare 0 ∷ []), ranges, sizes, first, last) (any-append _ _)
+  unfolding badFor layoutOf
+  tests =
+      rw (any-of wrong (outside ∷ differs field said ∷ differs spare 0 ∷ []), layouts, ranges, says, sizes, first, told, last) (any-append _ _)
 
   pub header-bad : header ≡ true → badArchive s ≡ true
   header-bad e = tests ∙ any-here _ _ e
 
   pub sizes-good : header ≡ false → sizesOutside z ≡ false
-  sizes-good e = sym ranges ∙ or-false (differs layout 1) outside (or-false (differs layout 1 || outside) (differs spare 0) e .0) .1
+  sizes-good e =
+      let three = or-false ((wrong || outside) || differs field said) (differs spare 0) e .0 in
+      sym ranges ∙ or-false wrong outside (or-false (wrong || outside) (differs field said) three .0) .1
 
   pub length-bad : {len : ℕ} → len ≡ archiveLength z → (length s ≡ len → ⊥) → badArchive s ≡ true
   length-bad e n = tests ∙ any-there _ _ (any-there _ _ (any-here _ _ (differs-other (λ q. n (q ∙ sym e)))))

@@ -18,7 +18,7 @@ module _ (s : List ℕ) (good : badArchive s ≡ false) where
 
   pub good-length : length s ≡ archiveLength (sizesOf s)
   unfolding badFor
-  good-length = same _ _ (none-at _ 4 good)
+  good-length = same _ _ (none-at _ 5 good)
 
   pub good-id : length (idOf s) ≡ 8
   unfolding idOf

@@ -1,5 +1,5 @@
 -- What an answer of Prove tells, and the response that it sends. Assumes nothing.
-use Prim.Native.Nat.{ℕ, _+_, _-_, _<_}
+use Prim.Native.Nat.{ℕ, _+_, _<_}
 use mathlib.Core.Path.{_≡_, _∙_}
 use mathlib.Core.Bool.{false}
 use mathlib.Core.List.{List}
@@ -10,7 +10,7 @@ use Rattle.lists.proofs.AnyLaws.{none-at}
 use Rattle.answer.specs.declared.Outcome.the-variants.{Done}
 use Rattle.answer.proofs.RefusalLaws.{accepted, same}
 use Rattle.sizes.specs.declared.Sizes.{Sizes}
-use Rattle.sizes.specs.Lengths.{responseLength, blockLength, recordLength}
+use Rattle.sizes.specs.Lengths.{responseLength, blockLength, recordLength, auxiliaryLength}
 use Rattle.message.proofs.ResponseLaws.{response-same}
 use Rattle.message.specs.Challenge.{challengeOf, malformedChallenge, notThere}
 use Rattle.archive.specs.Layout.{sizesOf, idOf, badArchive}
@@ -23,9 +23,9 @@ module _ (s maskKey elements seed message out : List ℕ) where
     pub formed : malformedChallenge message ≡ false
     pub there : notThere (sizesOf s) (challengeOf message) ≡ false
     pub key-length : length maskKey ≡ 32
-    pub elements-length : length elements ≡ sizesOf s .n - 1
+    pub elements-length : length elements ≡ auxiliaryLength (sizesOf s .n) (sizesOf s .tags)
     pub seed-length : length seed ≡ 11
-    pub response-length : length out ≡ responseLength (sizesOf s .n)
+    pub response-length : length out ≡ responseLength (sizesOf s .n) (sizesOf s .tags)
 
   pub provable : proveAnswer s maskKey elements seed message out ≡ Done → Provable
   unfolding proveAnswer proveFor
@@ -47,9 +47,10 @@ module _ (s maskKey elements seed message out : List ℕ) where
 pub proved-is : (s maskKey elements seed message combined : List ℕ) {sizes : Sizes} {node : ℕ} {key id w : List ℕ} → badArchive s ≡ false → sizes ≡ sizesOf s
     → node ≡ challengeOf message .node → key ≡ maskKey → id ≡ idOf s
     → ((e : ℕ) → e < recordLength (sizesOf s) → at combined e ≡ namedByte (sizesOf s) s (challengeOf message) e)
-    → w ≡ responseFor (sizes .n) id key elements seed node (at combined) (at combined (sizes .n + sizes .m))
+    → w ≡ responseFor (sizes .n) (sizes .tags) id key elements seed node (at combined) (λ k. at combined (sizes .n + sizes .m + k))
     → w ≡ provedFor (sizesOf s) (idOf s) s maskKey elements seed (challengeOf message)
 unfolding provedFor responseFor
 proved-is s maskKey elements seed message combined good e f k i named w =
     w ∙ rw (e, f, k, i)
-    (response-same (sizesOf s .n) (challengeOf message .node) _ _ _ _ _ seed _ (good-sizes s good .n-low) (λ j h. named j (omega arith)) (named (blockLength (sizesOf s)) (omega arith)))
+    (response-same (sizesOf s .n) (sizesOf s .tags) (challengeOf message .node) _ _ _ _ _ seed _ (good-sizes s good .n-low) (λ j h. named j (omega arith))
+    (λ k h. named (blockLength (sizesOf s) + k) (omega arith)))

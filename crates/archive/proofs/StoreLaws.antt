@@ -18,10 +18,10 @@ use Rattle.sizes.specs.Lengths.{placeCount, recordLength, archiveLength, record
 use Rattle.archive.specs.Layout.{archiveOf, markAt, withMarks, stored}
 use Rattle.archive.proofs.LayoutLaws.{length-archive, archive-front, archive-marks, archive-byte, mark-back, same-bytes}
 
-module _ (z : Sizes) (id : List ℕ) (e : length id ≡ 8) (mark : ℕ → Bool) (old : ℕ → ℕ → ℕ) (v : Bool) (k count : ℕ) (rec : ℕ → ℕ → ℕ)
+module _ (layout : ℕ) (z : Sizes) (id : List ℕ) (e : length id ≡ 8) (mark : ℕ → Bool) (old : ℕ → ℕ → ℕ) (v : Bool) (k count : ℕ) (rec : ℕ → ℕ → ℕ)
     (fits : k + count ≤ placeCount z) where
   abbrev s : List ℕ
-  s = archiveOf z id mark old
+  s = archiveOf layout z id mark old
 
   -- the archive once its marks are written, and then its records
   abbrev u : List ℕ
@@ -31,10 +31,10 @@ module _ (z : Sizes) (id : List ℕ) (e : length id ≡ 8) (mark : ℕ → Bool)
   w = grid count (recordLength z) (recordStart z k) rec u
 
   lu : length u ≡ archiveLength z
-  lu = length-put 6 12 _ s ∙ length-archive z id e mark old
+  lu = length-put 6 12 _ s ∙ length-archive layout z id e mark old
 
   kept : (i p : ℕ) → i < placeCount z → p < recordLength z → at u (recordStart z i + p) ≡ old i p
-  kept i p h hp = put-above 6 12 _ s (recordStart z i + p) (omega arith) ∙ archive-byte z id e mark old i p h hp
+  kept i p h hp = put-above 6 12 _ s (recordStart z i + p) (omega arith) ∙ archive-byte layout z id e mark old i p h hp
 
   ends : recordStart z k + count * recordLength z ≤ archiveLength z
   ends = omega (arith, mul-le-mul-right (recordLength z) fits)
@@ -58,14 +58,14 @@ module _ (z : Sizes) (id : List ℕ) (e : length id ≡ 8) (mark : ℕ → Bool)
       (order i (k + count)))
       (order i k)
 
-  pub stored-is : stored z v k count rec (archiveOf z id mark old) ≡ archiveOf z id (over k count (λ j. v) mark) (over k count rec old)
+  pub stored-is : stored z v k count rec (archiveOf layout z id mark old) ≡ archiveOf layout z id (over k count (λ j. v) mark) (over k count rec old)
   unfolding stored withMarks
   stored-is =
-      same-bytes z w _ (length-grid count (recordLength z) (recordStart z k) rec u ∙ lu) (length-archive z id e _ _)
+      same-bytes z w _ (length-grid count (recordLength z) (recordStart z k) rec u ∙ lu) (length-archive layout z id e _ _)
       (λ i h. grid-below count (recordLength z) (recordStart z k) rec u i (omega arith) ∙ put-below 6 12 _ s i h
-      ∙ archive-front z id e mark old i h ∙ sym (archive-front z id e _ _ i h))
+      ∙ archive-front layout z id e mark old i h ∙ sym (archive-front layout z id e _ _ i h))
       (λ j h. grid-below count (recordLength z) (recordStart z k) rec u (12 + j) (omega arith)
-      ∙ put-at 6 12 _ s j h (omega (arith, length-archive z id e mark old))
-      ∙ ap (λ (l : List ℕ). at l j) (packed-same 6 _ _ (λ i l. over-same k count (λ j. v) (λ j. v) (markAt s) mark i (λ j l. refl) (mark-back z id e mark old i (omega arith))))
-      ∙ sym (archive-marks z id e _ _ j h))
-      (λ i p h hp. stored-byte i p h hp ∙ sym (archive-byte z id e _ _ i p h hp))
+      ∙ put-at 6 12 _ s j h (omega (arith, length-archive layout z id e mark old))
+      ∙ ap (λ (l : List ℕ). at l j) (packed-same 6 _ _ (λ i l. over-same k count (λ j. v) (λ j. v) (markAt s) mark i (λ j l. refl) (mark-back layout z id e mark old i (omega arith))))
+      ∙ sym (archive-marks layout z id e _ _ j h))
+      (λ i p h hp. stored-byte i p h hp ∙ sym (archive-byte layout z id e _ _ i p h hp))

@@ -5,7 +5,7 @@ use lib.Dec.{eqb, ltb}
 use Rattle.lists.specs.Lists.{pick, at, bit}
 use Rattle.sizes.specs.declared.Sizes.{Sizes}
 use Rattle.vector.specs.Vectors.{mixed}
-use Rattle.tag.specs.KeyVector.{withTag}
+use Rattle.tag.specs.KeyVector.{withTags}
 use Rattle.sizes.specs.Lengths.{blockLength}
 
 -- element e of source block i, both counted from 0: n - 2 bytes of the file, two of the padding, and a unit vector of m elements
@@ -19,6 +19,6 @@ source z file padding i e =
 unfoldable pub coded : (z : Sizes) (file padding : List ℕ) (row : ℕ → ℕ) → ℕ → ℕ
 coded z file padding row = mixed (z .m) row (source z file padding)
 
--- that block, then its tag
-unfoldable pub codedRecord : (z : Sizes) (vector : ℕ → ℕ) (file padding : List ℕ) (row : ℕ → ℕ) → ℕ → ℕ
-codedRecord z vector file padding row = withTag (blockLength z) vector (coded z file padding row)
+-- that block, then its tags
+unfoldable pub codedRecord : (z : Sizes) (vectors : ℕ → ℕ → ℕ) (file padding : List ℕ) (row : ℕ → ℕ) → ℕ → ℕ
+codedRecord z vectors file padding row = withTags (blockLength z) vectors (coded z file padding row)

@@ -3,7 +3,7 @@ use Prim.Native.Nat.{ℕ, _+_}
 use mathlib.Core.Bool.{Bool, false}
 use mathlib.Core.List.{List, [], _∷_, _++_}
 use lib.ListN.{length, take, drop}
-use lib.Dec.{leb}
+use lib.Dec.{eqb, leb}
 use Rattle.lists.specs.Lists.{pick, at, flat, put, grid, over, anyOf, anyBelow}
 use Rattle.answer.specs.Refusals.{differs}
 use Rattle.bits.specs.Fields.{BitField, _wide_, pack, packed, bitAt, fieldAt}
@@ -14,18 +14,46 @@ use Rattle.sizes.specs.Lengths.{idStart, marksStart, marksLength, firstMark, ma
 
 -- ---- writing
 
--- layout 1, the four sizes, spare bits: 32 bits
-abbrev pub sizeFields : (z : Sizes) → List BitField
-sizeFields z = (4 wide 1) ∷ (11 wide z .n) ∷ (5 wide z .m) ∷ (4 wide z .places) ∷ (3 wide z .nodes) ∷ (5 wide 0) ∷ []
+-- a layout is 1 or 2; layout 1 has one tag
+unfoldable pub layoutOutside : (layout tags : ℕ) → Bool
+layoutOutside layout tags = pick (eqb layout 1) (differs tags 1) (differs layout 2)
+
+-- what a header says of the number of tags: nothing in layout 1
+unfoldable pub tagField : (layout tags : ℕ) → ℕ
+tagField layout tags = pick (eqb layout 1) 0 tags
+
+-- layout, the sizes, a spare bit: 32 bits
+abbrev pub sizeFields : (layout : ℕ) (z : Sizes) → List BitField
+sizeFields layout z =
+    (4 wide layout)
+    ∷ (11 wide z .n)
+    ∷ (5 wide z .m)
+    ∷ (4 wide z .places)
+    ∷ (3 wide z .nodes)
+    ∷ (4 wide tagField layout (z .tags))
+    ∷ (1 wide 0)
+    ∷ []
 
 -- a whole archive: those 32 bits, the id, the fill marks, then the records; rec k p is byte p of record k
-unfoldable pub archiveOf : (z : Sizes) (id : List ℕ) (mark : ℕ → Bool) (rec : ℕ → ℕ → ℕ) → List ℕ
-archiveOf z id mark rec = pack (sizeFields z) ++ (id ++ (packed marksLength mark ++ flat (placeCount z) (recordLength z) rec))
+unfoldable pub archiveOf : (layout : ℕ) (z : Sizes) (id : List ℕ) (mark : ℕ → Bool) (rec : ℕ → ℕ → ℕ) → List ℕ
+archiveOf layout z id mark rec =
+    pack (sizeFields layout z) ++ (id ++ (packed marksLength mark ++ flat (placeCount z) (recordLength z) rec))
 
 -- ---- reading
 
+unfoldable pub layoutOf : (s : List ℕ) → ℕ
+layoutOf s = fieldAt s 0 4
+
+-- layout 1 reads as one tag
 unfoldable pub sizesOf : (s : List ℕ) → Sizes
-sizesOf s = record { n = fieldAt s 4 11; m = fieldAt s 15 5; places = fieldAt s 20 4; nodes = fieldAt s 24 3 }
+sizesOf s =
+    record {
+      n = fieldAt s 4 11;
+      m = fieldAt s 15 5;
+      places = fieldAt s 20 4;
+      nodes = fieldAt s 24 3;
+      tags = pick (eqb (layoutOf s) 1) 1 (fieldAt s 27 4);
+    }
 
 unfoldable pub idOf : (s : List ℕ) → List ℕ
 idOf s = take idLength (drop idStart s)
@@ -41,13 +69,14 @@ filledIn z s node place = markAt s (placeNumber z node place)
 unfoldable pub byteIn : (z : Sizes) (s : List ℕ) (k p : ℕ) → ℕ
 byteIn z s k p = at s (recordStart z k + p)
 
--- layout, sizes, spare bits, unused marks, length; records are not looked at
+-- layout, sizes, bits that the layout leaves spare, unused marks, length; records are not looked at
 unfoldable pub badFor : (z : Sizes) (s : List ℕ) → Bool
 badFor z s =
     anyOf
-    (differs (fieldAt s 0 4) 1
+    (layoutOutside (layoutOf s) (z .tags)
     ∷ sizesOutside z
-    ∷ differs (fieldAt s 27 5) 0
+    ∷ differs (fieldAt s 27 4) (tagField (layoutOf s) (z .tags))
+    ∷ differs (fieldAt s 31 1) 0
     ∷ anyBelow markCount (λ k. pick (leb (placeCount z) k) (markAt s k) false)
     ∷ differs (length s) (archiveLength z)
     ∷ [])

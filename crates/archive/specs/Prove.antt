@@ -1,5 +1,5 @@
 -- The operation Prove (SCHEME, Operations). Refuses 3, 9, 2, 4, 5.
-use Prim.Native.Nat.{ℕ, _-_}
+use Prim.Native.Nat.{ℕ, _+_}
 use mathlib.Core.Bool.{Bool, not}
 use mathlib.Core.List.{List, [], _∷_}
 use lib.ListN.{length}
@@ -22,9 +22,9 @@ proveFor z filled maskKey auxiliary seed c out =
     refuse
     (anyOf
     (differs (length maskKey) keyLength
-    ∷ differs (length auxiliary) (auxiliaryLength (z .n))
+    ∷ differs (length auxiliary) (auxiliaryLength (z .n) (z .tags))
     ∷ differs (length seed) seedLength
-    ∷ differs (length out) (responseLength (z .n))
+    ∷ differs (length out) (responseLength (z .n) (z .tags))
     ∷ [])) Length
     (refuse (notThere z c) NoSuchPlace
     (refuse (anyBelow (length (c .places)) (λ j. not (filled (c .node) (at (c .places) j)))) PlaceEmpty
@@ -36,10 +36,10 @@ proveAnswer s maskKey auxiliary seed message out =
     (refuse (malformedChallenge message) Malformed
     (proveFor (sizesOf s) (filledIn (sizesOf s) s) maskKey auxiliary seed (challengeOf message) out))
 
--- the response for a combined block and its tag
-unfoldable pub responseFor : (n : ℕ) (id maskKey auxiliary seed : List ℕ) (node : ℕ) (block : ℕ → ℕ) (tag : ℕ) → List ℕ
-responseFor n id maskKey auxiliary seed node block tag =
-    responseBytes n node block tag (mask n (maskCoefficient maskKey seed) (maskRow maskKey id)) seed
+-- the response for a combined block and its tags
+unfoldable pub responseFor : (n tags : ℕ) (id maskKey auxiliary seed : List ℕ) (node : ℕ) (block tag : ℕ → ℕ) → List ℕ
+responseFor n tags id maskKey auxiliary seed node block tag =
+    responseBytes n tags node block tag (mask n (maskCoefficient maskKey seed) (maskRow maskKey id)) seed
     (maskSum n (maskCoefficient maskKey seed) auxiliary)
 
 -- byte e of the named places' records, combined by the challenge
@@ -48,7 +48,7 @@ namedByte z s c e = mixed (length (c .places)) (at (c .coefficients)) (λ j. byt
 
 unfoldable pub provedFor : (z : Sizes) (id s maskKey auxiliary seed : List ℕ) (c : Challenge) → List ℕ
 provedFor z id s maskKey auxiliary seed c =
-    responseFor (z .n) id maskKey auxiliary seed (c .node) (namedByte z s c) (namedByte z s c (blockLength z))
+    responseFor (z .n) (z .tags) id maskKey auxiliary seed (c .node) (namedByte z s c) (λ k. namedByte z s c (blockLength z + k))
 
 unfoldable pub proveOut : (s maskKey auxiliary seed message out : List ℕ) → List ℕ
 proveOut s maskKey auxiliary seed message out =

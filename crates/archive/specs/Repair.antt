@@ -42,7 +42,7 @@ repairSum z helpers q gammas thetas k x =
     sum (length helpers) (λ i. sum q (λ j.
     times (coefficient z q thetas i j k) (sum (z .places) (λ l. times (coefficient z q gammas i j l) (x (at helpers i) l)))))
 
--- byte e of repair block (i,j), tag included: the records of helper i combined by gamma(i,j,l) over l
+-- byte e of repair block (i,j), tags included: the records of helper i combined by gamma(i,j,l) over l
 unfoldable pub repairByte : (z : Sizes) (s helpers : List ℕ) (q : ℕ) (gammas : List ℕ) (i j e : ℕ) → ℕ
 repairByte z s helpers q gammas i j e =
     mixed (z .places) (coefficient z q gammas i j) (λ l. byteIn z s (placeNumber z (at helpers i) l)) e

@@ -3,12 +3,24 @@ ghost use mathlib.Core.Path.{_≡_};
 ghost use mathlib.Core.Bool.{false};
 ghost use Prim.Native.Nat.{_+_, _*_, _<_, _≤_};
 ghost use lib.ListN.{length};
-ghost use lib.Dec.{leb};
+ghost use lib.Dec.{eqb, leb};
 ghost use Rattle.lists.specs.Lists.{pick, anyBelow};
 ghost use Rattle.sizes.specs.Lengths.{marksStart, headerLength, markCount};
-ghost use Rattle.archive.specs.Layout.{sizesOf, idOf, markAt, badArchive};
+ghost use Rattle.archive.specs.Layout.{layoutOutside, tagField, sizesOf, idOf, markAt, badArchive};
+ghost use Rattle.bits.specs.Fields.{fieldAt};
 use sizes::Sizes;
 use sizes::archive_length;
+
+// The number of tags that a header of this layout says: one in layout 1, which has no field for it.
+fn tags_in(s: &[u8], layout: usize) -> usize
+    requires { ⌜ 4 ≤ length (now s) ⌝ }
+    ensures { λ r. ⌜ r ≡ pick (eqb layout 1) 1 (fieldAt (now (s .entry)) 27 4) ⌝ }
+{
+    if layout == 1 {
+        return 1;
+    }
+    bits::read_field(s, 27, 4)
+}
 
 // The sizes in a header.
 pub fn sizes_in(s: &[u8]) -> Sizes
@@ -20,6 +32,7 @@ pub fn sizes_in(s: &[u8]) -> Sizes
         m: bits::read_field(s, 15, 5),
         places: bits::read_field(s, 20, 4),
         nodes: bits::read_field(s, 24, 3),
+        tags: tags_in(s, bits::read_field(s, 0, 4)),
     }
 }
 
@@ -54,6 +67,26 @@ fn any_spare_mark(s: &[u8], count: usize) -> bool
     false
 }
 
+// Whether there is no such layout, or none with so many tags.
+pub fn layout_outside(layout: usize, tags: usize) -> bool
+    ensures { λ r. ⌜ r ≡ layoutOutside layout tags ⌝ }
+{
+    if layout == 1 {
+        return tags != 1;
+    }
+    layout != 2
+}
+
+// What a header of this layout says of the number of tags.
+pub fn tag_field(layout: usize, tags: usize) -> usize
+    ensures { λ r. ⌜ r ≡ tagField layout tags ⌝ }
+{
+    if layout == 1 {
+        return 0;
+    }
+    tags
+}
+
 // Whether s is a bad archive.
 pub fn bad_archive(s: &[u8]) -> bool
     ensures { λ r. ⌜ r ≡ badArchive (now (s .entry)) ⌝ }
@@ -63,8 +96,13 @@ pub fn bad_archive(s: &[u8]) -> bool
     }
     let z = sizes_in(s);
     let layout = bits::read_field(s, 0, 4);
-    let spare = bits::read_field(s, 27, 5);
-    if (layout != 1) | sizes::sizes_outside(z) | (spare != 0) {
+    let field = bits::read_field(s, 27, 4);
+    let spare = bits::read_field(s, 31, 1);
+    if layout_outside(layout, z.tags)
+        | sizes::sizes_outside(z)
+        | (field != tag_field(layout, z.tags))
+        | (spare != 0)
+    {
         return true;
     }
     if s.len() != archive_length(z) {

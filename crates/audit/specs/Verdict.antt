@@ -1,10 +1,10 @@
 -- The operation Verdict (SCHEME, Operations). Refuses 1, 9, 2, 4, 9.
 use Prim.Native.Nat.{ℕ, _+_, _-_, _*_}
-use mathlib.Core.Bool.{Bool}
+use mathlib.Core.Bool.{Bool, not}
 use mathlib.Core.List.{List, [], _∷_}
 use lib.ListN.{length}
-use lib.Dec.{eqb, ltb}
-use Rattle.lists.specs.Lists.{pick, at, anyOf}
+use lib.Dec.{ltb}
+use Rattle.lists.specs.Lists.{pick, at, anyOf, anyBelow}
 use Rattle.answer.specs.declared.Outcome.{Outcome}
 use Rattle.answer.specs.declared.Outcome.the-variants.{Done, Refused as RefusedOutcome}
 use Rattle.answer.specs.declared.Refusal.the-variants.{Size, Length, NoSuchPlace, Malformed}
@@ -37,7 +37,7 @@ verdictFor z tagKey id rows c malformed response =
     (differs (length tagKey) keyLength
     ∷ differs (length id) idLength
     ∷ differs (length rows) (z .places * z .m)
-    ∷ differs (length response) (responseLength (z .n))
+    ∷ differs (length response) (responseLength (z .n) (z .tags))
     ∷ [])) Length
     (refuse (notThere z c) NoSuchPlace
     (refuse (differs (at response 0) (at (responseHead (c .node)) 0)) Malformed
@@ -48,13 +48,18 @@ unfoldable pub namedRow : (z : Sizes) (rows : List ℕ) (c : Challenge) (i : ℕ
 namedRow z rows c i = mixed (length (c .places)) (at (c .coefficients)) (λ j e. at rows (at (c .places) j * z .m + e)) i
 
 -- the n data elements of the response, then that row
-unfoldable pub appended : (n : ℕ) (response : List ℕ) (row : ℕ → ℕ) (e : ℕ) → ℕ
-appended n response row e = pick (ltb e n) (dataIn n response e) (row (e - n))
+unfoldable pub appended : (n tags : ℕ) (response : List ℕ) (row : ℕ → ℕ) (e : ℕ) → ℕ
+appended n tags response row e = pick (ltb e n) (dataIn n tags response e) (row (e - n))
 
--- what Verdict compares, over any key vector and combined row
-unfoldable pub accepts : (z : Sizes) (vector row : ℕ → ℕ) (response : List ℕ) → Bool
-accepts z vector row response =
-    eqb (product (z .n + z .m) (appended (z .n) response row) vector) (plus (tagIn (z .n) response) (sumIn (z .n) response))
+-- the equation of tag s fails, over any key vectors and combined row: those elements times vector s, and tag s plus mask sum s, differ
+unfoldable pub fails : (z : Sizes) (vectors : ℕ → ℕ → ℕ) (row : ℕ → ℕ) (response : List ℕ) (s : ℕ) → Bool
+fails z vectors row response s =
+    differs (product (z .n + z .m) (appended (z .n) (z .tags) response row) (vectors s))
+    (plus (tagIn (z .n) (z .tags) response s) (sumIn (z .n) response s))
+
+-- that of no tag does
+unfoldable pub accepts : (z : Sizes) (vectors : ℕ → ℕ → ℕ) (row : ℕ → ℕ) (response : List ℕ) → Bool
+accepts z vectors row response = not (anyBelow (z .tags) (fails z vectors row response))
 
 unfoldable pub judgement : Outcome → Bool → Judgement
 judgement Done accepted = pick accepted Accepted Rejected

@@ -1,16 +1,18 @@
 // Verdict: the auditor's judgement on a response.
 ghost use mathlib.Core.Path.{_≡_};
 ghost use mathlib.Core.Bool.{false};
-ghost use Prim.Native.Nat.{_*_};
+ghost use Prim.Native.Nat.{_*_, _<_};
 ghost use lib.ListN.{length};
-ghost use Rattle.lists.specs.Lists.{at};
+ghost use Rattle.lists.specs.Lists.{at, anyBelow};
 ghost use Rattle.answer.specs.Refusals.{Passed};
 ghost use Rattle.field.specs.PrivateTables.{FieldTables};
 ghost use Rattle.sizes.specs.Sizes.{sizesOutside};
 ghost use Rattle.linear.specs.PrivateRows.{kept};
-ghost use Rattle.sizes.specs.Lengths.{responseLength, vectorMost};
+ghost use Rattle.sizes.specs.Lengths.{responseLength, vectorMost, keyLength, idLength};
+ghost use Rattle.tag.specs.KeyVector.{keyVector};
 ghost use Rattle.message.specs.Challenge.{challengeOf, malformedChallenge, notThere};
-ghost use Rattle.audit.specs.Verdict.{judgementNumber, verdictFor, namedRow, accepts, verdictOf};
+ghost use Rattle.audit.specs.Verdict.{judgementNumber, verdictFor, namedRow, fails, verdictOf};
+ghost use Rattle.sizes.specs.declared.Sizes.{Sizes};
 use crate::Judgement;
 use answer::Outcome;
 use answer::Refusal;
@@ -59,7 +61,7 @@ fn verdict_check(
     if (tag_key.len() != sizes::KEY_LENGTH)
         | (id.len() != sizes::ID_LENGTH)
         | (rows.len() != z.places * z.m)
-        | (response.len() != z.n + sizes::RESPONSE_PAST_N)
+        | (response.len() != sizes::response_length(z.n, z.tags))
     {
         return Outcome::Refused(Refusal::Length);
     }
@@ -86,24 +88,57 @@ fn named_row(tables: &Tables, z: Sizes, rows: &[u8], message: &[u8]) -> Row
     Row { bytes }
 }
 
-// Whether the data elements and the row, times the elements of a vector, give tag plus mask sum.
-fn agrees(tables: &Tables, z: Sizes, row: Row, response: &[u8], vector: &[u8]) -> bool
+// Whether the data elements and the row, times the elements of a vector, do not give tag s plus mask sum s.
+fn fails_at(tables: &Tables, z: Sizes, row: Row, response: &[u8], vector: &[u8], s: usize) -> bool
     requires { ⌜ FieldTables (now tables)
         × (sizesOutside z ≡ false)
-        × (length (now response) ≡ responseLength (z .n))
+        × (s < z .tags)
+        × (length (now response) ≡ responseLength (z .n) (z .tags))
         × (length (now vector) ≡ vectorMost) ⌝ }
-    ensures { λ r. ⌜ r ≡ accepts z (at (now (vector .entry))) (at (row .bytes)) (now (response .entry)) ⌝ }
+    ensures { λ r. ⌜ r ≡ fails z (λ s. at (now (vector .entry))) (at (row .bytes)) (now (response .entry)) s ⌝ }
 {
     let n = z.n;
+    let sums_end = n + z.tags;
     let masked = vector::product_of(tables, &response[1..n - 1], vector, n - 2);
     let clear = vector::product_of(
         tables,
-        &response[n + sizes::CLEAR_PAST_N..n + sizes::TAG_PAST_N],
+        &response[sums_end + sizes::CLEAR_PAST_SUMS..sums_end + sizes::TAG_PAST_SUMS],
         &vector[n - 2..n],
         2,
     );
     let tail = linear::dot(tables, row, &vector[n..n + z.m], z.m);
-    masked ^ clear ^ tail == response[n + sizes::TAG_PAST_N] ^ response[n + sizes::SUM_PAST_N]
+    masked ^ clear ^ tail
+        != response[sums_end + sizes::TAG_PAST_SUMS + s] ^ response[n + sizes::SUM_PAST_N + s]
+}
+
+// Whether that is so for the key vector of one of the tags.
+fn any_fails(
+    tables: &Tables,
+    z: Sizes,
+    row: Row,
+    response: &[u8],
+    tag_key: &[u8],
+    id: &[u8],
+) -> bool
+    requires { ⌜ FieldTables (now tables)
+        × (sizesOutside z ≡ false)
+        × (length (now response) ≡ responseLength (z .n) (z .tags))
+        × (length (now «tag_key») ≡ keyLength)
+        × (length (now id) ≡ idLength) ⌝ }
+    ensures { λ r.
+        let tagKey = now («tag_key» .entry) in
+        let id = now (id .entry) in
+        ⌜ r ≡ anyBelow (z .tags) (fails z (keyVector tagKey id) (at (row .bytes)) (now (response .entry))) ⌝ }
+{
+    let blocks = (z.n + z.m) / sizes::STREAM_BLOCK_LENGTH + 1;
+    for s in 0..z.tags {
+        let mut vector = [0u8; sizes::VECTOR_MOST];
+        tag::key_vector_into(tag_key, id, s, &mut vector, blocks);
+        if fails_at(tables, z, row, response, &vector, s) {
+            return true;
+        }
+    }
+    false
 }
 
 // The judgement where nothing is refused.
@@ -127,17 +162,10 @@ fn judged(
 {
     let tables = field::tables();
     let row = named_row(&tables, z, rows, message);
-    let mut vector = [0u8; sizes::VECTOR_MOST];
-    tag::key_vector_into(
-        tag_key,
-        id,
-        &mut vector,
-        (z.n + z.m) / sizes::STREAM_BLOCK_LENGTH + 1,
-    );
-    if agrees(&tables, z, row, response, &vector) {
-        Judgement::Accepted
-    } else {
+    if any_fails(&tables, z, row, response, tag_key, id) {
         Judgement::Rejected
+    } else {
+        Judgement::Accepted
     }
 }
 
@@ -149,6 +177,7 @@ pub fn verdict(
     m: usize,
     places: usize,
     nodes: usize,
+    tags: usize,
     rows: &[u8],
     message: &[u8],
     response: &[u8],
@@ -156,16 +185,18 @@ pub fn verdict(
     ensures { λ r.
         let tagKey = now («tag_key» .entry) in
         let id = now (id .entry) in
+        let z : Sizes = record { n = n; m = m; places = places; nodes = nodes; tags = tags } in
         let rows = now (rows .entry) in
         let message = now (message .entry) in
         let response = now (response .entry) in
-        ⌜ r ≡ verdictOf tagKey id (record { n = n; m = m; places = places; nodes = nodes }) rows message response ⌝ }
+        ⌜ r ≡ verdictOf tagKey id z rows message response ⌝ }
 {
     let z = Sizes {
         n,
         m,
         places,
         nodes,
+        tags,
     };
     match verdict_check(tag_key, id, z, rows, message, response) {
         Outcome::Done => judged(tag_key, id, z, rows, message, response),

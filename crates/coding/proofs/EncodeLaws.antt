@@ -1,17 +1,17 @@
--- What Encode's answer tells, and what it writes: the block, its tag, and the mark. Assumes nothing.
+-- What Encode's answer tells, and what it writes: the block, its tags, and the mark. Assumes nothing.
 use Prim.Native.Nat.{ℕ, _+_, _-_, _*_, _<_, _≤_}
-use mathlib.Core.Path.{_≡_, refl, sym, ap, ap₂, _∙_}
+use mathlib.Core.Path.{_≡_, sym, ap, ap₂, _∙_}
 use mathlib.Core.Bool.{true, false}
 use mathlib.Core.List.{List, [], _∷_}
 use mathlib.Core.Logic.{⊎-elim}
 use native.Mathlib.Omega.{arith}
 use lib.Dec.{leb}
-use lib.ListN.{length, set}
+use lib.ListN.{length}
 use borrow.Author.Tests.{lt-ltb, le-ltb, leb-false}
 use Rattle.lists.specs.Lists.{at, put, grid, over, anyOf}
 use Rattle.lists.proofs.TabLaws.{order}
 use Rattle.lists.proofs.AnyLaws.{none-at}
-use Rattle.lists.proofs.PutLaws.{length-put, put-below, put-above, put-at, put-more, put-put, put-same, is-put}
+use Rattle.lists.proofs.PutLaws.{length-put, put-below, put-above, put-at, put-put, put-same, is-put}
 use Rattle.answer.specs.Refusals.{Passed}
 use Rattle.answer.proofs.RefusalLaws.{accepted, same}
 use Rattle.field.specs.Field.{plus}
@@ -20,7 +20,7 @@ use Rattle.keystream.specs.declared.stream.Stream.{Stream}
 use Rattle.keystream.specs.PrivateStream.{drawn, after}
 use Rattle.sizes.specs.declared.Sizes.{Sizes}
 use Rattle.vector.specs.Vectors.{product, mixed, added}
-use Rattle.tag.specs.KeyVector.{keyVector, withTag}
+use Rattle.tag.specs.KeyVector.{keyVector, withTags}
 use Rattle.sizes.proofs.SizeLaws.{Ranged}
 use Rattle.tag.specs.PrivateKeyStream.{GivesKeyVector}
 use Rattle.vector.proofs.VectorLaws.{mixed-same, product-same, product-keys}
@@ -33,7 +33,7 @@ use Rattle.archive.specs.Layout.{sizesOf, idOf, markAt, withMarks, stored}
 use Rattle.archive.specs.Blocks.{source, coded, codedRecord}
 use Rattle.archive.specs.Calls.{encode, answerFor, archiveAnswer, effectFor}
 use Rattle.sizes.proofs.PlaceLaws.{number-low, count-low, record-fits}
-use Rattle.archive.proofs.GoodArchiveLaws.{good-sizes, good-length}
+use Rattle.archive.proofs.GoodArchiveLaws.{good-sizes, good-length, good-id}
 use Rattle.archive.proofs.RepairedLaws.{length-marks}
 use Rattle.archive.proofs.BlockLaws.{source-file, coded-row}
 
@@ -48,6 +48,7 @@ pub record Encodable (z : Sizes) (s : List ℕ) (node place : ℕ) (file padding
   pub sizes : Ranged z
   pub number : placeNumber z node place < 48
   pub fits : recordStart z (placeNumber z node place) + recordLength z ≤ length s
+  pub id-length : length (idOf s) ≡ 8
   pub file-length : length file ≡ fileLength z
   pub padding-length : length padding ≡ paddingLength z
   pub key-length : length key ≡ 32
@@ -66,6 +67,7 @@ module _ (s : List ℕ) (node place : ℕ) (file padding key row : List ℕ) whe
         sizes = R;
         number = omega (arith, count-low z R);
         fits = omega (arith, record-fits z _ low, good-length s (a .0));
+        id-length = good-id s (a .0);
         file-length = same _ _ (none-at _ 0 (l .0));
         padding-length = same _ _ (none-at _ 1 (l .0));
         key-length = same _ _ (none-at _ 2 (l .0));
@@ -180,28 +182,34 @@ kept-coded z file padding row h rows e =
 
 -- ---- the record
 
-withTag-block : (len : ℕ) (vector block : ℕ → ℕ) (e : ℕ) → e < len → withTag len vector block e ≡ block e
-unfolding withTag
-withTag-block len vector block e h = rw (lt-ltb e len h)
+withTags-block : (len : ℕ) (vectors : ℕ → ℕ → ℕ) (block : ℕ → ℕ) (e : ℕ) → e < len → withTags len vectors block e ≡ block e
+unfolding withTags
+withTags-block len vectors block e h = rw (lt-ltb e len h)
 
-withTag-tag : (len : ℕ) (vector block : ℕ → ℕ) → withTag len vector block len ≡ product len block vector
-unfolding withTag
-withTag-tag len vector block = rw (le-ltb len len (omega arith))
+withTags-tag : (len : ℕ) (vectors : ℕ → ℕ → ℕ) (block : ℕ → ℕ) (k : ℕ) → withTags len vectors block (len + k) ≡ product len block (vectors k)
+unfolding withTags
+withTags-tag len vectors block k =
+    let q : len + k - len ≡ k = omega arith in
+    rw (le-ltb (len + k) len (omega arith), q)
 
--- a block is written, and behind it its product with the stream that gives the key vector
-module _ (len start : ℕ) (block : ℕ → ℕ) (key id d : List ℕ) {w : List ℕ} (v : Stream) {tag : ℕ} (fits : start + len ≤ length d)
-    (gives : GivesKeyVector key id v) (blocks : w ≡ put len start block d)
-    (tags : tag ≡ product len (λ e. at w (start + e)) (λ e. drawn (after e v) .byte)) where
-  tag-is : tag ≡ product len block (keyVector key id)
-  tag-is =
-      tags ∙ product-keys len _ _ (keyVector key id) (λ e h. gives e)
-      ∙ product-same len _ block (keyVector key id) (λ e h. rw blocks (put-at len start block d e h fits))
+-- behind a block, tags were stored; the next one is the block's product with the stream that gives its key vector
+pub tag-drawn : (len start k : ℕ) (key id : List ℕ) (f : ℕ → ℕ) (d : List ℕ) {s : List ℕ} (v : Stream) {tag : ℕ} → GivesKeyVector key id k v
+    → s ≡ put k (start + len) f d → tag ≡ product len (λ e. at s (start + e)) (λ e. drawn (after e v) .byte)
+    → tag ≡ product len (λ e. at d (start + e)) (keyVector key id k)
+tag-drawn len start k key id f d v gives stored tags =
+    tags ∙ product-keys len _ _ (keyVector key id k) (λ e h. gives e)
+    ∙ product-same len _ _ (keyVector key id k) (λ e h. rw stored (put-below k (start + len) f d (start + e) (omega arith)))
 
-  record-written : set w (start + len) tag ≡ put (len + 1) start (withTag len (keyVector key id) block) d
-  record-written =
-      put-more len start _ d
-      (blocks ∙ put-same len start block _ d (λ e h. sym (withTag-block len (keyVector key id) block e h))) refl
-      (tag-is ∙ sym (withTag-tag len (keyVector key id) block))
+-- a block is written, and behind it its products with the key vectors
+record-written : (len tags start : ℕ) (block : ℕ → ℕ) (key id d : List ℕ) {w r : List ℕ} → start + len ≤ length d → w ≡ put len start block d
+    → r ≡ put tags (start + len) (λ k. product len (λ e. at w (start + e)) (keyVector key id k)) w
+    → r ≡ put (len + tags) start (withTags len (keyVector key id) block) d
+record-written len tags start block key id d {w} fits blocks made =
+    made
+    ∙ put-same tags (start + len) _ (λ k. withTags len (keyVector key id) block (len + k)) w (λ k h.
+    product-same len _ block (keyVector key id k) (λ e l. rw blocks (put-at len start block d e l fits)) ∙ sym (withTags-tag len (keyVector key id) block k))
+    ∙ ap (put tags (start + len) _) (blocks ∙ put-same len start block _ d (λ e h. sym (withTags-block len (keyVector key id) block e h)))
+    ∙ put-put len tags start (withTags len (keyVector key id) block) d
 
 -- ---- the archive
 
@@ -215,20 +223,18 @@ encode-effect z s node place file padding key row =
     let first : recordStart z (placeNumber z node place) + 0 * recordLength z ≡ recordStart z (placeNumber z node place) = omega arith in
     rw first
 
--- the steps of the code: the sizes read, the marks set, the block written, the tag stored
-pub place-filled : (z : Sizes) (s : List ℕ) (node place : ℕ) (file padding key row : List ℕ) {i u w : List ℕ} (v : Stream) {r : Row} {start tag : ℕ}
-    → z ≡ sizesOf s → Encodable z s node place file padding key row → start ≡ recordStart z (placeNumber z node place)
-    → i ≡ idOf s → GivesKeyVector key i v
+-- the steps of the code: the sizes read, the marks set, the block written, the tags behind it
+pub place-filled : (z : Sizes) (s : List ℕ) (node place : ℕ) (file padding key row : List ℕ) {i u w made : List ℕ} {r : Row} {start : ℕ}
+    → z ≡ sizesOf s → Encodable z s node place file padding key row → start ≡ recordStart z (placeNumber z node place) → i ≡ idOf s
     → u ≡ withMarks (over (placeNumber z node place) 1 (λ i. true) (markAt s)) s
     → r ≡ kept (z .m) (λ i. at row (0 + i)) → w ≡ put (blockLength z) start (coded z file padding (at (r .bytes))) u
-    → tag ≡ product (blockLength z) (λ e. at w (start + e)) (λ e. drawn (after e v) .byte)
-    → set w (start + z .n + z .m) tag ≡ effectFor (sizesOf s) (idOf s) s (encode node place file padding key row)
+    → made ≡ put (z .tags) (start + blockLength z) (λ k. product (blockLength z) (λ e. at w (start + e)) (keyVector key i k)) w
+    → made ≡ effectFor (sizesOf s) (idOf s) s (encode node place file padding key row)
 unfolding codedRecord
-place-filled z s node place file padding key row {u = u} v {start = start} read ok starts ids gives marks rows blocks tags =
-    let end : start + z .n + z .m ≡ start + (z .n + z .m) = omega arith in
+place-filled z s node place file padding key row {u = u} {start = start} read ok starts ids marks rows blocks tags =
     let long : length u ≡ length s = ap length marks ∙ length-marks _ s in
     let written = blocks ∙ put-same (blockLength z) start _ _ u (λ e h. kept-coded z file padding row (ok .sizes .m-high) rows e) in
-    rw end (record-written (blockLength z) start (coded z file padding (at row)) key (idOf s) u v (omega (arith, ok .fits)) (rw ids at gives) written tags)
+    record-written (blockLength z) (z .tags) start (coded z file padding (at row)) key (idOf s) u (omega (arith, ok .fits)) written (rw ids at tags)
     ∙ ap₂ (λ (from : ℕ) (d : List ℕ). put (recordLength z) from (codedRecord z (keyVector key (idOf s)) file padding (at row)) d) starts marks
     ∙ encode-effect z s node place file padding key row
     ∙ ap (λ (x : Sizes). effectFor x (idOf s) s (encode node place file padding key row)) read

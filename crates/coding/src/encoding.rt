@@ -1,13 +1,15 @@
 // Encode: one place is filled from the source blocks.
 ghost use mathlib.Core.Path.{_≡_};
 ghost use mathlib.Core.Bool.{false};
-ghost use Prim.Native.Nat.{_+_, _≤_};
+ghost use Prim.Native.Nat.{ℕ, _+_, _≤_};
 ghost use lib.ListN.{length};
 ghost use Rattle.lists.specs.Lists.{at, put};
 ghost use Rattle.answer.specs.Refusals.{Passed};
 ghost use Rattle.field.specs.PrivateTables.{FieldTables};
 ghost use Rattle.sizes.specs.Sizes.{sizesOutside};
-ghost use Rattle.sizes.specs.Lengths.{blockLength, fileLength, paddingLength};
+ghost use Rattle.sizes.specs.Lengths.{blockLength, fileLength, paddingLength, keyLength, idLength, tagsMost};
+ghost use Rattle.vector.specs.Vectors.{product};
+ghost use Rattle.tag.specs.KeyVector.{keyVector};
 ghost use Rattle.archive.specs.Layout.{sizesOf, idOf};
 ghost use Rattle.archive.specs.Blocks.{coded};
 ghost use Rattle.archive.specs.Calls as Calls;
@@ -102,7 +104,36 @@ fn write_block(
     lists::store(&elements, 0, archive, start + n, m);
 }
 
-// The mark, the block and its tag.
+// The tags of the len bytes from `start` on, behind them.
+fn write_tags(
+    tables: &Tables,
+    tag_key: &[u8],
+    id: &[u8],
+    tags: usize,
+    archive: &mut [u8],
+    start: usize,
+    len: usize,
+)
+    requires { ⌜ FieldTables (now tables)
+        × (length (now «tag_key») ≡ keyLength)
+        × (length (now id) ≡ idLength)
+        × (tags ≤ tagsMost)
+        × (start + (len + tags) ≤ length (now archive)) ⌝ }
+    ensures { λ _.
+        let tagKey = now («tag_key» .entry) in
+        let id = now (id .entry) in
+        let s = now (archive .entry) in
+        let tag : ℕ → ℕ = λ k. product len (λ e. at s (start + e)) (keyVector tagKey id k) in
+        ⌜ now (archive .exit) ≡ put tags (start + len) tag s ⌝ }
+{
+    for k in 0..tags {
+        let vector = tag::key_stream(tag_key, id, k);
+        let tag = tag::product_drawn(tables, archive, start, len, vector);
+        archive[start + len + k] = tag;
+    }
+}
+
+// The mark, the block and its tags.
 fn fill_place(
     archive: &mut [u8],
     node: usize,
@@ -127,14 +158,12 @@ fn fill_place(
     let start = record_start(z, k);
     let kept = linear::row_from(row, 0, z.m);
     let id = id_in(archive);
-    let vector = tag::key_stream(tag_key, &id);
     set_marks(archive, k, 1, true);
     write_block(&tables, z, file, padding, kept, archive, start);
-    let tag = tag::product_drawn(&tables, archive, start, z.n + z.m, vector);
-    archive[start + z.n + z.m] = tag;
+    write_tags(&tables, tag_key, &id, z.tags, archive, start, z.n + z.m);
 }
 
-// Fills a place of a node (the scheme: box) with the source blocks combined by a row, and the tag of that block.
+// Fills a place of a node (the scheme: box) with the source blocks combined by a row, and the tags of that block.
 pub fn encode(
     archive: &mut [u8],
     node: usize,

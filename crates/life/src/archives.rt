@@ -1,67 +1,39 @@
-// The archive at the end of the life in numbers: n=3, m=2, M=2, N=3; nodes 1 and 2 are filled.
-pub const LIVED: [u8; 54] = [
-    0x10,
-    0x06,
-    0x22,
-    0x60,
-    0x01,
-    0x02,
-    0x03,
-    0x04,
-    0x05,
-    0x06,
-    0x07,
-    0x08,
-    0x3c,
-    0x00,
-    0x00,
-    0x00,
-    0x00,
-    0x00,
-    0x00,
-    0x00,
-    0x00,
-    0x00,
-    0x00,
-    0x00,
-    0x00,
-    0x00,
-    0x00,
-    0x00,
-    0x00,
-    0x00,
-    0x28,
-    0x53,
-    0x05,
-    0x53,
-    0xca,
-    0xa5,
-    0x00,
-    0x00,
-    0x00,
-    0x00,
-    0x00,
-    0x00,
-    0x2a,
-    0xf3,
-    0xd5,
-    0xf3,
-    0xfe,
-    0xbd,
-    0x40,
-    0x72,
-    0xc1,
-    0x72,
-    0xfb,
-    0xca,
-];
+// The archives at the end of the lives in numbers: n=3, m=2, M=2, N=3; nodes 1 and 2 are filled. The first life has layout 1, so one tag;
+// the second has layout 2 and three tags.
+pub const LIVED: [u8; 54] =
+    *b"\x10\x06\x22\x60\x01\x02\x03\x04\x05\x06\x07\x08\x3c\x00\x00\x00\x00\x00\
+    \x00\x00\x00\x00\x00\x00\x00\x00\x00\x00\x00\x00\
+    \x28\x53\x05\x53\xca\xa5\x00\x00\x00\x00\x00\x00\
+    \x2a\xf3\xd5\xf3\xfe\xbd\x40\x72\xc1\x72\xfb\xca";
 
-// That archive at the front of 64 bytes, with byte `at` made b.
-pub fn changed(at: usize, b: u8) -> [u8; 64] {
-    let mut s = [0xa5u8; 64];
+pub const LIVED_OF_THREE: [u8; 66] =
+    *b"\x20\x06\x22\x66\x01\x02\x03\x04\x05\x06\x07\x08\x3c\x00\x00\x00\x00\x00\
+    \x00\x00\x00\x00\x00\x00\x00\x00\x00\x00\x00\x00\x00\x00\x00\x00\
+    \x28\x53\x05\x53\xca\xa5\x96\x15\x00\x00\x00\x00\x00\x00\x00\x00\
+    \x2a\xf3\xd5\xf3\xfe\xbd\x28\x64\x40\x72\xc1\x72\xfb\xca\x98\x20";
+
+// An archive, and bytes past it.
+pub type Bytes = [u8; 80];
+
+// The first archive, with byte `at` made b.
+pub fn changed(at: usize, b: u8) -> Bytes {
+    let mut s = [0xa5u8; 80];
     lists::store(&LIVED, 0, &mut s, 0, 54);
-    s[at % 64] = b;
+    s[at % 80] = b;
     s
+}
+
+// The second archive, with byte `at` made b.
+pub fn changed_of_three(at: usize, b: u8) -> Bytes {
+    let mut s = [0xa5u8; 80];
+    lists::store(&LIVED_OF_THREE, 0, &mut s, 0, 66);
+    s[at % 80] = b;
+    s
+}
+
+// What a refused call left of an archive.
+pub fn unchanged(before: Bytes, after: Bytes) {
+    cases::unchanged(&before, &after);
 }
 
 // The number that an answer counts; 255 where it is refused.

@@ -1,5 +1,7 @@
-// Encode, Lose and Repair with any lengths and numbers, on the archive of the life in numbers.
+// Encode, Lose and Repair with any lengths and numbers, on the archive of the first life; Repair's scratch on that of the second.
 use crate::archives::changed;
+use crate::archives::changed_of_three;
+use crate::archives::unchanged;
 
 // A refused Encode with buffers of these lengths, each below 65.
 fn encode(
@@ -28,7 +30,7 @@ fn encode(
         &rows[0..row % 65],
     );
     cases::number(label, expected, answer::number(answer) as u64);
-    cases::unchanged(s, t);
+    unchanged(s, t);
 }
 
 // 2, a length; 4, no such node or place; 6, place filled.
@@ -64,7 +66,7 @@ fn lose(label: &[u8], node: usize) {
     let mut t = s;
     let answer = archive::lose(&mut t[0..54], node);
     cases::number(label, 4, answer::number(answer) as u64);
-    cases::unchanged(s, t);
+    unchanged(s, t);
 }
 
 fn lose_refused() {
@@ -103,7 +105,7 @@ fn repair(
         &mut lent[0..scratch % 65],
     );
     cases::number(label, expected, answer::number(answer) as u64);
-    cases::unchanged(s, t);
+    unchanged(s, t);
     cases::kept(lent);
 }
 
@@ -165,9 +167,35 @@ fn repair_places() {
     repair(b"Repair, the target as helper", 5, 0, 2, 0, 1, 4, 4, 12);
 }
 
+// Node 0 from node 1, Q=1, with three tags: the scratch buffer has 8 bytes.
+fn scratch_of_three(label: &[u8], scratch: usize) {
+    let s = changed_of_three(0, 0x20);
+    let mut t = s;
+    let mut lent = [0xa5u8; 64];
+    let answer = coding::repair(
+        &mut t[0..66],
+        0,
+        &[1],
+        1,
+        &[1, 2],
+        &[3, 4],
+        &mut lent[0..scratch % 65],
+    );
+    cases::number(label, 2, answer::number(answer) as u64);
+    unchanged(s, t);
+    cases::kept(lent);
+}
+
+fn scratches_of_three() {
+    scratch_of_three(b"Repair, L=3, scratch one short", 7);
+    scratch_of_three(b"Repair, L=3, scratch one long", 9);
+    scratch_of_three(b"Repair, L=3, scratch of one tag", 6);
+}
+
 pub fn run() {
     encode_refused();
     lose_refused();
     repair_sizes();
     repair_places();
+    scratches_of_three();
 }

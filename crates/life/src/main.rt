@@ -1,4 +1,4 @@
-// Lives the life in numbers through the archive's operations, with the worked header and marks, and calls each operation
+// Lives the lives in numbers through the archive's operations, with the worked header and marks, and calls each operation
 // with hostile bytes, lengths and numbers.
 mod archives;
 mod bad;

@@ -5,7 +5,7 @@ use cases::counting_key;
 // n=3, m=2, M=1, N=3: the header and the length of 36 bytes.
 fn worked() -> [u8; 36] {
     let mut s = [0xffu8; 36];
-    let answer = answer::number(archive::open(3, 2, 1, 3, &ID, &mut s));
+    let answer = answer::number(archive::open(1, 3, 2, 1, 3, 1, &ID, &mut s));
     cases::number(b"Open's answer", 0, answer as u64);
     cases::bytes(
         b"Open, n=3, m=2, M=1, N=3: the header's first bytes",
@@ -41,7 +41,51 @@ fn marks() {
     );
 }
 
+fn opened_with_tags(tags: usize, len: usize) -> [u8; 64] {
+    let mut s = [0xffu8; 64];
+    let answer = archive::open(2, 3, 2, 1, 3, tags, &ID, &mut s[0..len % 65]);
+    cases::number(b"Open's answer", 0, answer::number(answer) as u64);
+    s
+}
+
+// Layout 2: the header ends with the number of tags. Lose takes such an archive.
+fn worked_with_tags(label: &[u8], tags: usize, last: u8, len: usize) {
+    let mut s = opened_with_tags(tags, len);
+    cases::bytes(label, &[0x20, 0x06, 0x21, last], &s[0..4]);
+    let answer = archive::lose(&mut s[0..len % 65], 2);
+    cases::number(b"Lose's answer", 0, answer::number(answer) as u64);
+}
+
 // A refused Open with an id and an archive of these lengths, each below 65.
+fn open(
+    label: &[u8],
+    expected: u64,
+    layout: usize,
+    n: usize,
+    m: usize,
+    places: usize,
+    nodes: usize,
+    tags: usize,
+    id: usize,
+    len: usize,
+) {
+    let ids = [0xa5u8; 64];
+    let mut lent = ids;
+    let answer = answer::number(archive::open(
+        layout,
+        n,
+        m,
+        places,
+        nodes,
+        tags,
+        &ids[0..id % 65],
+        &mut lent[0..len % 65],
+    ));
+    cases::number(label, expected, answer as u64);
+    cases::kept(lent);
+}
+
+// Under layout 1, with one tag.
 fn refused(
     label: &[u8],
     expected: u64,
@@ -52,23 +96,46 @@ fn refused(
     id: usize,
     len: usize,
 ) {
-    let ids = [0xa5u8; 64];
-    let mut lent = ids;
-    let answer = answer::number(archive::open(
-        n,
-        m,
-        places,
-        nodes,
-        &ids[0..id % 65],
-        &mut lent[0..len % 65],
-    ));
-    cases::number(label, expected, answer as u64);
-    cases::kept(lent);
+    open(label, expected, 1, n, m, places, nodes, 1, id, len);
+}
+
+// With n=3, m=2, M=1, N=1: 23 bytes and the tags.
+fn refused_with_tags(label: &[u8], expected: u64, layout: usize, tags: usize, len: usize) {
+    open(label, expected, layout, 3, 2, 1, 1, tags, 8, len);
+}
+
+// A layout or a number of tags that there is not, with the length that it would have where that fits; then wrong lengths.
+fn layouts() {
+    refused_with_tags(b"Open, layout 0", 1, 0, 1, 24);
+    refused_with_tags(b"Open, layout 3", 1, 3, 1, 24);
+    refused_with_tags(b"Open, layout 15", 1, 15, 1, 24);
+    refused_with_tags(b"Open, layout 18", 1, 18, 1, 24);
+    refused_with_tags(b"Open, layout 2^63", 1, 9223372036854775808, 1, 24);
+    refused_with_tags(b"Open, layout 1, L=0", 1, 1, 0, 23);
+    refused_with_tags(b"Open, layout 1, L=2", 1, 1, 2, 25);
+    refused_with_tags(b"Open, L=0", 1, 2, 0, 23);
+    refused_with_tags(b"Open, L=11", 1, 2, 11, 34);
+    refused_with_tags(b"Open, L=17", 1, 2, 17, 40);
+    refused_with_tags(b"Open, L=2^63", 1, 2, 9223372036854775808, 23);
+    refused_with_tags(b"Open, L=3, one byte short", 2, 2, 3, 25);
+    refused_with_tags(b"Open, L=3, one byte long", 2, 2, 3, 27);
 }
 
 // 1, sizes, before 2, lengths.
 pub fn run() {
     marks();
+    worked_with_tags(
+        b"Open, layout 2, L=1: the header's first bytes",
+        1,
+        0x62,
+        36,
+    );
+    worked_with_tags(
+        b"Open, layout 2, L=10: the header's first bytes",
+        10,
+        0x74,
+        63,
+    );
     refused(b"Open, n=0", 1, 0, 2, 1, 3, 8, 36);
     refused(b"Open, n=2", 1, 2, 2, 1, 3, 8, 33);
     refused(b"Open, n=1025", 1, 1025, 2, 1, 3, 0, 0);
@@ -86,4 +153,5 @@ pub fn run() {
     refused(b"Open, one byte short", 2, 3, 2, 1, 3, 8, 35);
     refused(b"Open, one byte long", 2, 3, 2, 1, 3, 8, 37);
     refused(b"Open, no archive", 2, 3, 2, 1, 3, 8, 0);
+    layouts();
 }

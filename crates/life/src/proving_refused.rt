@@ -1,11 +1,13 @@
-// Prove with any lengths and messages, on the archive of the life in numbers.
+// Prove with any lengths and messages, on the archive of the first life in numbers; with any lengths on that of the second.
 use crate::archives::LIVED;
+use crate::archives::LIVED_OF_THREE;
 use cases::CHALLENGE;
 
 // A refused Prove with buffers of these lengths, each below 65.
-fn prove(
+fn prove_on(
     label: &[u8],
     expected: u64,
+    archive: &[u8],
     message: &[u8],
     mask_key: usize,
     elements: usize,
@@ -17,7 +19,7 @@ fn prove(
     let seeds = keys;
     let mut lent = [0xa5u8; 64];
     let answer = proving::prove(
-        &LIVED,
+        archive,
         &keys[0..mask_key % 65],
         &lists[0..elements % 65],
         &seeds[0..seed % 65],
@@ -26,6 +28,27 @@ fn prove(
     );
     cases::number(label, expected, answer::number(answer) as u64);
     cases::kept(lent);
+}
+
+fn prove(
+    label: &[u8],
+    expected: u64,
+    message: &[u8],
+    mask_key: usize,
+    elements: usize,
+    seed: usize,
+    response: usize,
+) {
+    prove_on(
+        label,
+        expected,
+        &LIVED,
+        message,
+        mask_key,
+        elements,
+        seed,
+        response,
+    );
 }
 
 fn lengths() {
@@ -38,6 +61,29 @@ fn lengths() {
     prove(b"Prove, response one short", 2, &CHALLENGE, 32, 2, 11, 16);
     prove(b"Prove, response one long", 2, &CHALLENGE, 32, 2, 11, 18);
     prove(b"Prove, no response", 2, &CHALLENGE, 32, 2, 11, 0);
+}
+
+// Three tags: 6 elements, a response of 21 bytes.
+fn prove_of_three(label: &[u8], elements: usize, response: usize) {
+    prove_on(
+        label,
+        2,
+        &LIVED_OF_THREE,
+        &CHALLENGE,
+        32,
+        elements,
+        11,
+        response,
+    );
+}
+
+fn lengths_of_three() {
+    prove_of_three(b"Prove, L=3, elements one short", 5, 21);
+    prove_of_three(b"Prove, L=3, elements one long", 7, 21);
+    prove_of_three(b"Prove, L=3, elements of one tag", 2, 21);
+    prove_of_three(b"Prove, L=3, response one short", 6, 20);
+    prove_of_three(b"Prove, L=3, response one long", 6, 22);
+    prove_of_three(b"Prove, L=3, response of one tag", 6, 17);
 }
 
 // With every length right.
@@ -71,4 +117,5 @@ fn messages() {
 pub fn run() {
     lengths();
     messages();
+    lengths_of_three();
 }

@@ -175,18 +175,22 @@ flat-same zero m f g h = refl
 flat-same (suc n) m f g h =
     rw (flat-same n m f g (λ k p l hp. h k p (omega arith) hp), tab-same m (f n) (g n) (λ p hp. h n p (omega arith) hp))
 
--- rows of stores in a whole list
-pub grid-all : (n m : ℕ) (f : ℕ → ℕ → ℕ) (d : List ℕ) → length d ≡ n * m → grid n m 0 f d ≡ flat n m f
-grid-all n m f d e =
-    ext-getD 0 _ _ (length-grid n m 0 f d ∙ e ∙ sym (length-flat n m f)) (λ (i : ℕ) h.
-    let l : i < n * m = omega (arith, length-grid n m 0 f d) in
+-- a list with these values, row by row
+pub is-flat : (n m : ℕ) (f : ℕ → ℕ → ℕ) (d : List ℕ) → length d ≡ n * m → ((k p : ℕ) → k < n → p < m → at d (k * m + p) ≡ f k p) → d ≡ flat n m f
+is-flat n m f d e h =
+    ext-getD 0 _ _ (e ∙ sym (length-flat n m f)) (λ (i : ℕ) b.
+    let l : i < n * m = omega arith in
     let low : 0 < m = some m i l in
     let r : i / m < n = div-lt-iff-lt-mul {k = m} low .1 l in
     let q : i ≡ i / m * m + i % m = sym (div-add-mod' i m) in
-    let q0 : i ≡ 0 + i / m * m + i % m = omega arith in
-    ap (at (grid n m 0 f d)) q0 ∙ grid-at n m 0 f d (i / m) (i % m) r (mod-lt i low) (omega arith)
-    ∙ sym (ap (at (flat n m f)) q ∙ flat-at n m f (i / m) (i % m) r (mod-lt i low)))
+    ap (at d) q ∙ h (i / m) (i % m) r (mod-lt i low) ∙ sym (ap (at (flat n m f)) q ∙ flat-at n m f (i / m) (i % m) r (mod-lt i low)))
   where
     some : (m i : ℕ) → i < n * m → 0 < m
     some zero i l = absurd (omega arith)
     some (suc m) i l = omega arith
+
+-- rows of stores in a whole list
+pub grid-all : (n m : ℕ) (f : ℕ → ℕ → ℕ) (d : List ℕ) → length d ≡ n * m → grid n m 0 f d ≡ flat n m f
+grid-all n m f d e =
+    is-flat n m f (grid n m 0 f d) (length-grid n m 0 f d ∙ e) (λ k p l hp.
+    ap (at (grid n m 0 f d)) {x = k * m + p} {y = 0 + k * m + p} (omega arith) ∙ grid-at n m 0 f d k p l hp (omega arith))

@@ -1,7 +1,7 @@
 -- F2, F3, mask rows, auxiliary elements, mask and mask sum (SCHEME, Mask).
-use Prim.Native.Nat.{ℕ, _+_, _-_, _/_, _%_}
+use Prim.Native.Nat.{ℕ, _+_, _-_, _*_, _/_, _%_}
 use mathlib.Core.List.{List, _∷_}
-use Rattle.lists.specs.Lists.{at, tab}
+use Rattle.lists.specs.Lists.{at, flat}
 use Rattle.field.specs.Field.{sum, times}
 use Rattle.keystream.specs.Draws.{byteAt}
 use Rattle.vector.specs.Vectors.{product, mixed}
@@ -22,16 +22,16 @@ maskRow maskKey id i e = F2 maskKey id (i + 1) (e + 1)
 unfoldable pub maskCoefficient : (maskKey seed : List ℕ) (i : ℕ) → ℕ
 maskCoefficient maskKey seed i = F3 maskKey seed (i + 1)
 
--- ---- over any key vector, mask rows and coefficients
+-- ---- over any key vectors, mask rows and coefficients
 
--- each mask row times the first n - 2 elements of the key vector
-unfoldable pub auxiliary : (n : ℕ) (vector : ℕ → ℕ) (rows : ℕ → ℕ → ℕ) → List ℕ
-auxiliary n vector rows = tab (n - 1) (λ i. product (n - 2) (rows i) vector)
+-- tag by tag: each mask row times the first n - 2 elements of the tag's key vector
+unfoldable pub auxiliary : (n tags : ℕ) (vectors rows : ℕ → ℕ → ℕ) → List ℕ
+auxiliary n tags vectors rows = flat tags (n - 1) (λ s i. product (n - 2) (rows i) (vectors s))
 
 -- the mask rows combined
 unfoldable pub mask : (n : ℕ) (coefficients : ℕ → ℕ) (rows : ℕ → ℕ → ℕ) → ℕ → ℕ
 mask n coefficients rows = mixed (n - 1) coefficients rows
 
--- the auxiliary elements combined by the same coefficients
-unfoldable pub maskSum : (n : ℕ) (coefficients : ℕ → ℕ) (auxiliaries : List ℕ) → ℕ
-maskSum n coefficients auxiliaries = sum (n - 1) (λ i. times (coefficients i) (at auxiliaries i))
+-- the auxiliary elements of tag s combined by the same coefficients
+unfoldable pub maskSum : (n : ℕ) (coefficients : ℕ → ℕ) (auxiliaries : List ℕ) (s : ℕ) → ℕ
+maskSum n coefficients auxiliaries s = sum (n - 1) (λ i. times (coefficients i) (at auxiliaries (s * (n - 1) + i)))

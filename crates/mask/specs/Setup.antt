@@ -1,6 +1,6 @@
 -- The operation Setup (SCHEME, Operations).
 use Prim.Native.Nat.{ℕ, _-_}
-use mathlib.Core.Bool.{not}
+use mathlib.Core.Bool.{Bool, not}
 use mathlib.Core.List.{List, [], _∷_}
 use lib.ListN.{length}
 use Rattle.lists.specs.Lists.{anyOf, anyBelow}
@@ -8,26 +8,30 @@ use Rattle.answer.specs.declared.Outcome.{Outcome}
 use Rattle.answer.specs.declared.Outcome.the-variants.{Done}
 use Rattle.answer.specs.declared.Refusal.the-variants.{Size, Length, ZeroKeyVector}
 use Rattle.answer.specs.Refusals.{refuse, afterwards, differs}
-use Rattle.sizes.specs.Sizes.{nOutside}
+use Rattle.sizes.specs.Sizes.{nOutside, tagsOutside}
 use Rattle.sizes.specs.Lengths.{keyLength, idLength, auxiliaryLength}
 use Rattle.tag.specs.KeyVector.{keyVector}
 use Rattle.mask.specs.Masks.{maskRow, auxiliary}
 
--- refuses 1, 2, 7
+-- the first n - 2 elements are zero
+unfoldable pub zeroVector : (n : ℕ) (vector : ℕ → ℕ) → Bool
+zeroVector n vector = not (anyBelow (n - 2) (λ e. differs (vector e) 0))
 
-unfoldable pub setupAnswer : (tagKey maskKey id : List ℕ) (n : ℕ) (out : List ℕ) → Outcome
-setupAnswer tagKey maskKey id n out =
-    refuse (nOutside n) Size
+-- refuses 1, 2, 7: that of one tag is enough
+
+unfoldable pub setupAnswer : (tagKey maskKey id : List ℕ) (n tags : ℕ) (out : List ℕ) → Outcome
+setupAnswer tagKey maskKey id n tags out =
+    refuse (anyOf (nOutside n ∷ tagsOutside tags ∷ [])) Size
     (refuse
     (anyOf
     (differs (length tagKey) keyLength
     ∷ differs (length maskKey) keyLength
     ∷ differs (length id) idLength
-    ∷ differs (length out) (auxiliaryLength n)
+    ∷ differs (length out) (auxiliaryLength n tags)
     ∷ [])) Length
-    (refuse (not (anyBelow (n - 2) (λ e. differs (keyVector tagKey id e) 0))) ZeroKeyVector
+    (refuse (anyBelow tags (λ s. zeroVector n (keyVector tagKey id s))) ZeroKeyVector
     Done))
 
-unfoldable pub setupOut : (tagKey maskKey id : List ℕ) (n : ℕ) (out : List ℕ) → List ℕ
-setupOut tagKey maskKey id n out =
-    afterwards (setupAnswer tagKey maskKey id n out) out (auxiliary n (keyVector tagKey id) (maskRow maskKey id))
+unfoldable pub setupOut : (tagKey maskKey id : List ℕ) (n tags : ℕ) (out : List ℕ) → List ℕ
+setupOut tagKey maskKey id n tags out =
+    afterwards (setupAnswer tagKey maskKey id n tags out) out (auxiliary n tags (keyVector tagKey id) (maskRow maskKey id))

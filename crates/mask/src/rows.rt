@@ -1,13 +1,14 @@
 // Mask rows: what is made of all of them, one pass over each.
 ghost use mathlib.Core.Path.{_≡_};
-ghost use Prim.Native.Nat.{ℕ, _+_, _-_, _<_, _≤_};
+ghost use Prim.Native.Nat.{ℕ, _+_, _-_, _*_, _<_, _≤_};
 ghost use mathlib.Core.List.{_∷_};
 ghost use lib.ListN.{length};
 ghost use Rattle.lists.specs.Lists.{at};
-ghost use Rattle.sizes.specs.Lengths.{idLength, nLeast, nMost, seedLength};
+ghost use Rattle.sizes.specs.Lengths.{idLength, nLeast, nMost, tagsMost, vectorsMost, auxiliaryLength, seedLength};
 ghost use Rattle.field.specs.PrivateTables.{FieldTables};
 ghost use Rattle.keystream.specs.PrivateStream.{drawn, after};
-ghost use Rattle.vector.specs.Vectors.{added};
+ghost use Rattle.vector.specs.Vectors.{product, added};
+ghost use Rattle.mask.specs.PrivateSpaced.{spaced};
 ghost use Rattle.mask.specs.Masks.{maskRow, maskCoefficient, auxiliary, mask, maskSum};
 use field::Tables;
 use keystream::Key;
@@ -26,19 +27,67 @@ fn mask_row(key: Key, id: &[u8], i: usize, n: usize) -> [u8; sizes::N_MOST]
     row
 }
 
-// The auxiliary elements over a key vector, one for each mask row.
-pub fn auxiliary_into(tables: &Tables, key: Key, id: &[u8], vector: &[u8], n: usize, out: &mut [u8])
+// One row times the first n - 2 elements of each tag's vector: element i of each tag.
+fn products_into(
+    tables: &Tables,
+    row: &[u8],
+    vectors: &[u8],
+    n: usize,
+    tags: usize,
+    i: usize,
+    out: &mut [u8],
+)
     requires { ⌜ FieldTables (now tables)
         × (nLeast ≤ n)
         × (n ≤ nMost)
+        × (tags ≤ tagsMost)
+        × (i < n - 1)
+        × (length (now row) ≡ nMost)
+        × (length (now vectors) ≡ vectorsMost)
+        × (length (now out) ≡ auxiliaryLength n tags) ⌝ }
+    ensures { λ _.
+        let row = now (row .entry) in
+        let vectors = now (vectors .entry) in
+        let value : ℕ → ℕ = λ s. product (n - 2) (at row) (λ e. at vectors (s * nMost + e)) in
+        ⌜ now (out .exit) ≡ spaced tags (n - 1) i value (now (out .entry)) ⌝ }
+{
+    for s in 0..tags {
+        let first = s * sizes::N_MOST;
+        out[s * (n - 1) + i] = vector::product_of(
+            tables,
+            row,
+            &vectors[first..first + sizes::N_MOST],
+            n - 2,
+        );
+    }
+}
+
+// The auxiliary elements over the vectors of the tags, which stand one after another, of N_MOST elements each: all those of a mask row at
+// once, so that the row is drawn once.
+pub fn auxiliary_into(
+    tables: &Tables,
+    key: Key,
+    id: &[u8],
+    vectors: &[u8],
+    n: usize,
+    tags: usize,
+    out: &mut [u8],
+)
+    requires { ⌜ FieldTables (now tables)
+        × (nLeast ≤ n)
+        × (n ≤ nMost)
+        × (tags ≤ tagsMost)
         × (length (now id) ≡ idLength)
-        × (n - 2 ≤ length (now vector))
-        × (length (now out) ≡ n - 1) ⌝ }
-    ensures { λ _. ⌜ now (out .exit) ≡ auxiliary n (at (now (vector .entry))) (maskRow key (now (id .entry))) ⌝ }
+        × (length (now vectors) ≡ vectorsMost)
+        × (length (now out) ≡ auxiliaryLength n tags) ⌝ }
+    ensures { λ _.
+        let id = now (id .entry) in
+        let vectors = now (vectors .entry) in
+        ⌜ now (out .exit) ≡ auxiliary n tags (λ s e. at vectors (s * nMost + e)) (maskRow key id) ⌝ }
 {
     for i in 0..n - 1 {
         let row = mask_row(key, id, i, n);
-        out[i] = vector::product_of(tables, &row, vector, n - 2);
+        products_into(tables, &row, vectors, n, tags, i, out);
     }
 }
 
@@ -110,12 +159,16 @@ pub fn add_mask(key: Key, id: &[u8], seed: &[u8], n: usize, out: &mut [u8], from
     add_rows(&tables, key, id, coefficients, n, out, from);
 }
 
-// The mask sum of a seed, made from auxiliary elements.
-pub fn mask_sum(key: Key, seed: &[u8], n: usize, auxiliary: &[u8]) -> u8
-    requires { ⌜ (1 ≤ n) × (length (now seed) ≡ seedLength) × (n - 1 ≤ length (now auxiliary)) ⌝ }
-    ensures { λ r. ⌜ r ≡ maskSum n (maskCoefficient key (now (seed .entry))) (now (auxiliary .entry)) ⌝ }
+// Mask sum s of a seed, made from the auxiliary elements of tag s.
+pub fn mask_sum(key: Key, seed: &[u8], n: usize, auxiliary: &[u8], s: usize) -> u8
+    requires { ⌜ (nLeast ≤ n)
+        × (n ≤ nMost)
+        × (s < tagsMost)
+        × (length (now seed) ≡ seedLength)
+        × (auxiliaryLength n (s + 1) ≤ length (now auxiliary)) ⌝ }
+    ensures { λ r. ⌜ r ≡ maskSum n (maskCoefficient key (now (seed .entry))) (now (auxiliary .entry)) s ⌝ }
 {
     let tables = field::tables();
     let coefficients = Stream::new(key, seed_nonce(seed));
-    tag::product_drawn(&tables, auxiliary, 0, n - 1, coefficients)
+    tag::product_drawn(&tables, auxiliary, s * (n - 1), n - 1, coefficients)
 }

@@ -8,8 +8,8 @@ use Rattle.message.specs.Response.{responseBytes}
 use Rattle.message.specs.Unmask.{unmasked}
 use Rattle.sizes.specs.Lengths.{seedLength}
 
--- unmasking gives back what was masked, whatever the block, its tag, the node and the mask sum
+-- unmasking gives back what was masked, whatever the block, its tags, the node and the mask sums
 abbrev pub Unmasks : Type 0
 Unmasks =
-    (n node : ℕ) (block : ℕ → ℕ) (tag total : ℕ) (id key seed : List ℕ) → 3 ≤ n → length seed ≡ seedLength → (e : ℕ) → e < n - 2
-    → unmasked n id key (responseBytes n node block tag (mask n (maskCoefficient key seed) (maskRow key id)) seed total) e ≡ block e
+    (n tags node : ℕ) (block tag total : ℕ → ℕ) (id key seed : List ℕ) → 3 ≤ n → length seed ≡ seedLength → (e : ℕ) → e < n - 2
+    → unmasked n id key (responseBytes n tags node block tag (mask n (maskCoefficient key seed) (maskRow key id)) seed total) e ≡ block e

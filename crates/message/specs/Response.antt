@@ -12,21 +12,29 @@ use Rattle.sizes.specs.Lengths.{seedLength, seedStart, sumAt, clearStart, tagAt
 abbrev pub responseHead : (node : ℕ) → List ℕ
 responseHead node = pack ((4 wide 2) ∷ (3 wide node) ∷ (1 wide 0) ∷ [])
 
-unfoldable pub responseBytes : (n node : ℕ) (block : ℕ → ℕ) (tag : ℕ) (hidden : ℕ → ℕ) (seed : List ℕ) (total : ℕ) → List ℕ
-responseBytes n node block tag hidden seed total =
-    responseHead node ++ (tab (n - 2) (λ e. plus (block e) (hidden e)) ++ (seed ++ (total ∷ block (n - 2) ∷ block (n - 1) ∷ tag ∷ [])))
+-- of a block, its tags, what hides it, the seed and the mask sums, by tag
+unfoldable pub responseBytes : (n tags node : ℕ) (block tag hidden : ℕ → ℕ) (seed : List ℕ) (total : ℕ → ℕ) → List ℕ
+responseBytes n tags node block tag hidden seed total =
+    responseHead node
+    ++ (tab (n - 2) (λ e. plus (block e) (hidden e))
+    ++ (seed ++ (tab tags total ++ ((block (n - 2) ∷ block (n - 1) ∷ []) ++ tab tags tag))))
 
 -- ---- its parts
 
--- the n data elements, those masked and then those in clear
-unfoldable pub dataIn : (n : ℕ) (response : List ℕ) (e : ℕ) → ℕ
-dataIn n response e = pick (ltb e (n - 2)) (at response (1 + e)) (at response (clearStart n + (e - (n - 2))))
+-- of the n data elements, those masked
+abbrev pub maskedIn : (response : List ℕ) (e : ℕ) → ℕ
+maskedIn response e = at response (1 + e)
+
+-- all of them: those masked and then those in clear
+unfoldable pub dataIn : (n tags : ℕ) (response : List ℕ) (e : ℕ) → ℕ
+dataIn n tags response e = pick (ltb e (n - 2)) (maskedIn response e) (at response (clearStart n tags + (e - (n - 2))))
 
 unfoldable pub seedIn : (n : ℕ) (response : List ℕ) → List ℕ
 seedIn n response = take seedLength (drop (seedStart n) response)
 
-abbrev pub sumIn : (n : ℕ) (response : List ℕ) → ℕ
-sumIn n response = at response (sumAt n)
+-- mask sum s and tag s
+abbrev pub sumIn : (n : ℕ) (response : List ℕ) (s : ℕ) → ℕ
+sumIn n response s = at response (sumAt n s)
 
-abbrev pub tagIn : (n : ℕ) (response : List ℕ) → ℕ
-tagIn n response = at response (tagAt n)
+abbrev pub tagIn : (n tags : ℕ) (response : List ℕ) (s : ℕ) → ℕ
+tagIn n tags response s = at response (tagAt n tags s)

@@ -17,11 +17,11 @@ use Rattle.answer.specs.declared.Outcome.the-variants.{Done}
 use Rattle.answer.specs.Refusals.{refuse, afterwards}
 use Rattle.field.specs.Field.{plus}
 use Rattle.vector.specs.Vectors.{product}
-use Rattle.tag.specs.KeyVector.{withTag, keyVector}
+use Rattle.tag.specs.KeyVector.{withTags, keyVector}
 use Rattle.vector.proofs.VectorLaws.{mixed-mixed, mixed-vectors, mixed-lt, product-same, product-left, product-cut}
 use Rattle.tag.proofs.TagLaws.{tags-combine}
 use Rattle.mask.specs.Masks.{maskRow, maskCoefficient, auxiliary, mask, maskSum}
-use Rattle.sizes.specs.Lengths.{responseLength, blockLength, recordLength}
+use Rattle.sizes.specs.Lengths.{responseLength, blockLength, recordLength, auxiliaryLength}
 use Rattle.message.specs.Response.{responseHead, sumIn, tagIn}
 use Rattle.mask.proofs.MaskLaws.{length-auxiliary, mask-sum}
 use Rattle.message.proofs.ResponseLaws.{response-length, response-first, response-sum, response-tag, response-data, response-same}
@@ -29,7 +29,7 @@ use Rattle.message.specs.Challenge.{Challenge, challengeOf, malformedChallenge}
 use Rattle.audit.specs.Verdict.{verdictFor, appended, accepts, judgement, verdictOf, namedRow as givenRow}
 use Rattle.audit.specs.declared.Judgement.the-variants.{Accepted, Rejected}
 use Rattle.message.proofs.ChallengeLaws.{in-rule, challenge-back, well-formed, asked-even, asked-rule, asked-bytes}
-use Rattle.audit.proofs.VerdictLaws.{altered}
+use Rattle.audit.proofs.VerdictLaws.{accepts-all, altered}
 use Rattle.archive.specs.Layout.{filledIn}
 use Rattle.archive.specs.Blocks.{source, coded}
 use Rattle.archive.specs.Prove.{proveFor, proveAnswer, responseFor, namedByte, provedFor, proveOut}
@@ -44,7 +44,7 @@ use Rattle.promise.proofs.ImageLaws.{Fit, image-sizes, image-id, image-
 pub record Keys (g : Given) : Type 0 where
   pub tag-size : length (g .tagKey) ≡ 32
   pub mask-size : length (g .maskKey) ≡ 32
-  pub auxiliary-are : givenAuxiliary g ≡ auxiliary (g .z .n) (vector (setting g)) (maskRow (g .maskKey) (g .id))
+  pub auxiliary-are : givenAuxiliary g ≡ auxiliary (g .z .n) (g .z .tags) (vector (setting g)) (maskRow (g .maskKey) (g .id))
 
 module _ (g : Given) (F : Fit (setting g)) (K : Keys g) (t : Table) (h : Honest g t) where
   abbrev A : List ℕ
@@ -58,6 +58,9 @@ module _ (g : Given) (F : Fit (setting g)) (K : Keys g) (t : Table) (h : Honest 
 
   abbrev n : ℕ
   n = g .z .n
+
+  abbrev tags : ℕ
+  tags = g .z .tags
 
   abbrev row : ℕ → ℕ
   row = namedRow g t A h
@@ -83,8 +86,8 @@ module _ (g : Given) (F : Fit (setting g)) (K : Keys g) (t : Table) (h : Honest 
 
   -- ---- Prove
 
-  elements-length : length (givenAuxiliary g) ≡ n - 1
-  elements-length = ap length (K .auxiliary-are) ∙ length-auxiliary n _ _
+  elements-length : length (givenAuxiliary g) ≡ auxiliaryLength n tags
+  elements-length = ap length (K .auxiliary-are) ∙ length-auxiliary n tags _ _
 
   proves : proveAnswer A (g .maskKey) (givenAuxiliary g) (h .seed) (message g t A h) (h .out) ≡ Done
   unfolding proveAnswer refuse proveFor anyOf
@@ -95,9 +98,9 @@ module _ (g : Given) (F : Fit (setting g)) (K : Keys g) (t : Table) (h : Honest 
         challenge-is,
         image-sizes (setting g) F t,
         eq-eqb (length (g .maskKey)) 32 (K .mask-size),
-        eq-eqb (length (givenAuxiliary g)) (n - 1) elements-length,
+        eq-eqb (length (givenAuxiliary g)) (auxiliaryLength n tags) elements-length,
         eq-eqb (length (h .seed)) 11 (h .seed-size),
-        eq-eqb (length (h .out)) (responseLength n) (h .out-size),
+        eq-eqb (length (h .out)) (responseLength n tags) (h .out-size),
         lt-leb (g .z .nodes) (h .c .node) (h .node-there),
         any-none count (λ j. leb (g .z .places) (at (h .c .places) j)) (λ j l. lt-leb (g .z .places) _ (h .places-there j l)),
         any-none count (λ j. not (filledIn (g .z) A (h .c .node) (at (h .c .places) j)))
@@ -105,7 +108,7 @@ module _ (g : Given) (F : Fit (setting g)) (K : Keys g) (t : Table) (h : Honest 
       )
 
   -- the named places' records, combined, are the source blocks with their tags, combined by the row
-  named : (e : ℕ) → e < recordLength (g .z) → namedByte (g .z) A (h .c) e ≡ withTag (blockLength (g .z)) (vector (setting g)) block e
+  named : (e : ℕ) → e < recordLength (g .z) → namedByte (g .z) A (h .c) e ≡ withTags (blockLength (g .z)) (vector (setting g)) block e
   unfolding namedByte coded
   named e he =
       mixed-vectors count (at (h .c .coefficients)) _ _ e
@@ -115,18 +118,20 @@ module _ (g : Given) (F : Fit (setting g)) (K : Keys g) (t : Table) (h : Honest 
       ∙ sym (tags-combine (blockLength (g .z)) (g .z .m) row (source (g .z) (g .file) (g .padding)) (vector (setting g)) e)
 
   named-block : (e : ℕ) → e < blockLength (g .z) → namedByte (g .z) A (h .c) e ≡ block e
-  unfolding withTag
+  unfolding withTags
   named-block e l = named e (omega arith) ∙ rw (lt-ltb e (blockLength (g .z)) l)
 
-  named-tag : namedByte (g .z) A (h .c) (blockLength (g .z)) ≡ product (blockLength (g .z)) block (vector (setting g))
-  unfolding withTag
-  named-tag = named (blockLength (g .z)) (omega arith) ∙ rw (le-ltb (blockLength (g .z)) (blockLength (g .z)) (omega arith))
+  named-tag : (s : ℕ) → s < tags → namedByte (g .z) A (h .c) (blockLength (g .z) + s) ≡ product (blockLength (g .z)) block (vector (setting g) s)
+  unfolding withTags
+  named-tag s l =
+      let q : blockLength (g .z) + s - blockLength (g .z) ≡ s = omega arith in
+      named (blockLength (g .z) + s) (omega arith) ∙ rw (le-ltb (blockLength (g .z) + s) (blockLength (g .z)) (omega arith), q)
 
   sends : sent g t A h ≡ expected g t A h
   unfolding proveOut afterwards provedFor responseFor
   sends =
       rw (proves, challenge-is, image-sizes (setting g) F t, image-id (setting g) F t)
-      (response-same n (h .c .node) _ _ _ _ _ (h .seed) _ (F .ranged .n-low) (λ i l. named-block i (omega arith)) named-tag)
+      (response-same n tags (h .c .node) _ _ _ _ _ (h .seed) _ (F .ranged .n-low) (λ i l. named-block i (omega arith)) named-tag)
 
   -- ---- Verdict
 
@@ -136,19 +141,19 @@ module _ (g : Given) (F : Fit (setting g)) (K : Keys g) (t : Table) (h : Honest 
   row-given i l =
       mixed-vectors count (at (h .c .coefficients)) _ _ i (λ j lj. flat-at (g .z .places) (g .z .m) _ (at (h .c .places) j) i (h .places-there j lj) l)
 
-  abbrev total : ℕ
+  abbrev total : ℕ → ℕ
   total = maskSum n (maskCoefficient (g .maskKey) (h .seed)) (givenAuxiliary g)
 
-  abbrev tagged : ℕ
-  tagged = product (blockLength (g .z)) block (vector (setting g))
+  abbrev tagged : ℕ → ℕ
+  tagged s = product (blockLength (g .z)) block (vector (setting g) s)
 
   -- what Verdict multiplies by the key vector: the block with the mask on its first n - 2 elements
   whole : (e : ℕ) → e < blockLength (g .z)
-      → appended n (expected g t A h) (givenRow (g .z) (nodeRows g t A h) (h .c)) e ≡ plus (block e) (pick (ltb e (n - 2)) (hidden e) 0)
+      → appended n tags (expected g t A h) (givenRow (g .z) (nodeRows g t A h) (h .c)) e ≡ plus (block e) (pick (ltb e (n - 2)) (hidden e) 0)
   unfolding appended responseFor
   whole e l =
       ⊎-elim
-      (λ (a : e < n). rw (lt-ltb e n a) (response-data n (h .c .node) block tagged hidden (h .seed) total (F .ranged .n-low) (h .seed-size) e a))
+      (λ (a : e < n). rw (lt-ltb e n a) (response-data n tags (h .c .node) block tagged hidden (h .seed) total (F .ranged .n-low) (h .seed-size) e a))
       (λ (a : n ≤ e).
       let q : e ≡ n + (e - n) = omega arith in
       rw (le-ltb e n a, le-ltb e (n - 2) (omega arith), xor-zero-r (block e))
@@ -156,30 +161,31 @@ module _ (g : Given) (F : Fit (setting g)) (K : Keys g) (t : Table) (h : Honest 
       ∙ sym (ap block q ∙ coded-row (g .z) (g .file) (g .padding) row (e - n) (omega arith) (mixed-lt count _ _ (e - n)))))
       (order e n)
 
-  expected-tag : tagIn n (expected g t A h) ≡ tagged
+  expected-tag : (s : ℕ) → s < tags → tagIn n tags (expected g t A h) s ≡ tagged s
   unfolding responseFor
-  expected-tag = response-tag n (h .c .node) block tagged hidden (h .seed) total (F .ranged .n-low) (h .seed-size)
+  expected-tag = response-tag n tags (h .c .node) block tagged hidden (h .seed) total (F .ranged .n-low) (h .seed-size)
 
-  expected-sum : sumIn n (expected g t A h) ≡ total
+  expected-sum : (s : ℕ) → s < tags → sumIn n (expected g t A h) s ≡ total s
   unfolding responseFor
-  expected-sum = response-sum n (h .c .node) block tagged hidden (h .seed) total (F .ranged .n-low) (h .seed-size)
+  expected-sum = response-sum n tags (h .c .node) block tagged hidden (h .seed) total (F .ranged .n-low) (h .seed-size)
 
-  total-is : product (n - 2) hidden (vector (setting g)) ≡ total
-  total-is = sym (ap (maskSum n (maskCoefficient (g .maskKey) (h .seed))) (K .auxiliary-are) ∙ mask-sum n _ (vector (setting g)) _)
+  total-is : (s : ℕ) → s < tags → product (n - 2) hidden (vector (setting g) s) ≡ total s
+  total-is s l =
+      sym (ap (λ (x : List ℕ). maskSum n (maskCoefficient (g .maskKey) (h .seed)) x s) (K .auxiliary-are) ∙ mask-sum n tags _ (vector (setting g)) _ s l)
 
   abbrev judged : List ℕ → Bool
   judged response = accepts (g .z) (keyVector (g .tagKey) (g .id)) (givenRow (g .z) (nodeRows g t A h) (h .c)) response
 
   accepted-it : judged (expected g t A h) ≡ true
-  unfolding accepts
   accepted-it =
-      eq-eqb _ _
-      (product-same (blockLength (g .z)) _ _ (vector (setting g)) whole
-      ∙ product-left (blockLength (g .z)) block _ (vector (setting g))
-      ∙ ap₂ plus (sym expected-tag) (product-cut (n - 2) (blockLength (g .z)) hidden (vector (setting g)) (omega arith) ∙ total-is ∙ sym expected-sum))
+      accepts-all (g .z) (keyVector (g .tagKey) (g .id)) (givenRow (g .z) (nodeRows g t A h) (h .c)) (expected g t A h) .1 (λ s l.
+      product-same (blockLength (g .z)) _ _ (vector (setting g) s) whole
+      ∙ product-left (blockLength (g .z)) block _ (vector (setting g) s)
+      ∙ ap₂ plus (sym (expected-tag s l))
+      (product-cut (n - 2) (blockLength (g .z)) hidden (vector (setting g) s) (omega arith) ∙ total-is s l ∙ sym (expected-sum s l)))
 
   -- a response of Prove's length and first byte is not refused
-  heard : (response : List ℕ) → length response ≡ responseLength n → at response 0 ≡ at (responseHead (h .c .node)) 0
+  heard : (response : List ℕ) → length response ≡ responseLength n tags → at response 0 ≡ at (responseHead (h .c .node)) 0
       → says g t A h response ≡ pick (judged response) Accepted Rejected
   unfolding verdictOf verdictFor refuse anyOf judgement
   heard response l b =
@@ -190,19 +196,19 @@ module _ (g : Given) (F : Fit (setting g)) (K : Keys g) (t : Table) (h : Honest 
         eq-eqb (length (g .tagKey)) 32 (K .tag-size),
         eq-eqb (length (g .id)) 8 (F .id-size),
         eq-eqb (length (nodeRows g t A h)) (g .z .places * g .z .m) (length-flat (g .z .places) (g .z .m) _),
-        eq-eqb (length response) (responseLength n) l,
+        eq-eqb (length response) (responseLength n tags) l,
         lt-leb (g .z .nodes) (h .c .node) (h .node-there),
         any-none count (λ j. leb (g .z .places) (at (h .c .places) j)) (λ j m. lt-leb (g .z .places) _ (h .places-there j m)),
         eq-eqb (at response 0) (at (responseHead (h .c .node)) 0) b,
       )
 
-  expected-length : length (expected g t A h) ≡ responseLength n
+  expected-length : length (expected g t A h) ≡ responseLength n tags
   unfolding responseFor
-  expected-length = response-length n (h .c .node) block tagged hidden (h .seed) total (F .ranged .n-low) (h .seed-size)
+  expected-length = response-length n tags (h .c .node) block tagged hidden (h .seed) total (F .ranged .n-low) (h .seed-size)
 
   expected-first : at (expected g t A h) 0 ≡ at (responseHead (h .c .node)) 0
   unfolding responseFor
-  expected-first = response-first n (h .c .node) block tagged hidden (h .seed) total (F .ranged .n-low) (h .seed-size)
+  expected-first = response-first n tags (h .c .node) block tagged hidden (h .seed) total (F .ranged .n-low) (h .seed-size)
 
   pub audit-holds : AuditHolds g t A h
   audit-holds =

@@ -30,7 +30,7 @@ pub fits : (g : Given) → Fit (setting g)
 unfolding openAnswer
 fits g =
     let o = accepted _ _ _ (g .open-done) in
-    record { ranged = ranged (g .z) (o .0); id-size = same _ _ (none-at _ 0 (accepted _ _ _ (o .1) .0)) }
+    record { laid = none-at _ 0 (o .0); ranged = ranged (g .z) (none-at _ 1 (o .0)); id-size = same _ _ (none-at _ 0 (accepted _ _ _ (o .1) .0)) }
 
 keys : (g : Given) → Keys g
 unfolding setupAnswer setupOut afterwards
@@ -42,7 +42,7 @@ keys g =
       auxiliary-are = rw (g .setup-done);
     }
 
-open-is : (g : Given) → openOut (g .z) (g .id) (g .lent) ≡ image (setting g) allEmpty
+open-is : (g : Given) → openOut (g .layout) (g .z) (g .id) (g .lent) ≡ image (setting g) allEmpty
 unfolding openOut afterwards
 open-is g = rw (g .open-done) (opened-is (setting g))
 
@@ -64,14 +64,14 @@ module _ (g : Given) (t : Table) (node place : ℕ) (row : List ℕ) (h : node <
       record {
         block = λ a l. image-byte (setting g) F t node place a h hp (omega arith) ∙ ap (λ (x : Place). placeRecord (setting g) x a) e
             ∙ record-block (setting g) F t (filled row) a l;
-        tag = image-byte (setting g) F t node place (blockLength (g .z)) h hp (omega arith)
-            ∙ ap (λ (x : Place). placeRecord (setting g) x (blockLength (g .z))) e ∙ record-tag (setting g) F t row;
+        tag = λ s l. image-byte (setting g) F t node place (blockLength (g .z) + s) h hp (omega arith)
+            ∙ ap (λ (x : Place). placeRecord (setting g) x (blockLength (g .z) + s)) e ∙ record-tag (setting g) F t row s;
       }
 
 -- ---- the claim
 
 on-image : (g : Given) (calls : List Call) (t : Table) → AllFine (g .z) t
-    → archiveAnswers (openOut (g .z) (g .id) (g .lent)) calls ≡ tableAnswers (g .z) allEmpty calls → Demand g calls t (image (setting g) t)
+    → archiveAnswers (openOut (g .layout) (g .z) (g .id) (g .lent)) calls ≡ tableAnswers (g .z) allEmpty calls → Demand g calls t (image (setting g) t)
 on-image g calls t fine answers =
     record {
       answers = answers;
@@ -86,7 +86,7 @@ on-image g calls t fine answers =
 
 -- the archive after the calls is the image of the table after them
 pub run-is : (g : Given) (calls : List Call) → Admitted g allEmpty calls
-    → archiveRun (openOut (g .z) (g .id) (g .lent)) calls ≡ image (setting g) (tableRun (g .z) allEmpty calls)
+    → archiveRun (openOut (g .layout) (g .z) (g .id) (g .lent)) calls ≡ image (setting g) (tableRun (g .z) allEmpty calls)
 run-is g calls a = rw (open-is g) (runs g (fits g) allEmpty calls a .1)
 
 pub demand3 : Demand3

@@ -6,18 +6,20 @@ use mathlib.Core.List.{List, [], _∷_}
 use mathlib.Core.Logic.{⊎-elim}
 use native.Mathlib.Nat.{div-add-mod'}
 use native.Mathlib.Omega.{arith}
-use Rattle.lists.specs.Lists.{tab, over, anyOf, howMany}
+use Rattle.lists.specs.Lists.{at, tab, flat, over, anyOf, anyBelow, howMany}
 use Rattle.answer.specs.declared.Outcome.the-variants.{Done, Refused as RefusedOutcome}
-use Rattle.answer.specs.declared.Refusal.the-variants.{Length, BadArchive, Unreadable}
-use Rattle.answer.specs.Refusals.{refuse, afterwards}
+use Rattle.answer.specs.declared.Refusal.the-variants.{Length, BadArchive, Unreadable, ZeroKeyVector}
+use Rattle.answer.specs.Refusals.{refuse, afterwards, outside}
 use Rattle.field.specs.Field.{sum, modulus, xtime, xtimes, times}
 use Rattle.keystream.specs.ChaCha.{half, quarterOf, setFour, quarter, quadruples, quartersTo, rounds, blockWords, serialised, wordAt, start, blockOf}
 use Rattle.keystream.specs.Draws.{byteAt}
 use Rattle.bits.specs.Fields.{bitOf, bitsOf, widths, number, packed, pack}
 use Rattle.vector.specs.Vectors.{product, mixed}
+use Rattle.tag.specs.KeyVector.{F1, keyVector}
+use Rattle.mask.specs.Setup.{zeroVector, setupAnswer}
 use Rattle.mask.specs.Masks.{F2, maskRow, auxiliary, mask, maskSum}
 use Rattle.message.specs.Response.{responseBytes, dataIn}
-use Rattle.audit.specs.Verdict.{namedRow, appended, accepts}
+use Rattle.audit.specs.Verdict.{namedRow, appended, fails, accepts}
 use Rattle.sizes.specs.Lengths.{recordLength, placeCount, placeNumber}
 use Rattle.archive.specs.Layout.{sizesOf, markAt, byteIn}
 use Rattle.archive.specs.Blocks.{source, coded}
@@ -32,20 +34,20 @@ use Rattle.promise.specs.Image.{placeRecord}
 use Rattle.promise.specs.Demand3.{setting, Admitted}
 use Rattle.promise.specs.Life as L
 use Rattle.promise.specs.Worked as W
-use Rattle.promise.specs.Hollow.{fresh, firstCall, Hollow}
+use Rattle.promise.specs.Hollow.{fresh, firstCall, altered, threeAgree, zeroSecond, Hollow}
 use Rattle.promise.proofs.ImageLaws.{image-mark, image-number}
 use Rattle.promise.proofs.DemandLaws.{fits, run-is, demand3}
 use Rattle.promise.proofs.Life.{two-bytes, given, lived}
 
 -- ---- the life in numbers
 
-row-is : tab 2 (rowIn L.z L.archive (placeNumber L.z 2 0)) ≡ 0xf3 ∷ 0xfe ∷ []
+row-is : tab 2 (rowIn (L.z 1) (L.archive 1 1) (placeNumber (L.z 1) 2 0)) ≡ 0xf3 ∷ 0xfe ∷ []
 unfolding tab byteIn
-row-is = rw (lived .archive-is)
+row-is = rw (lived .0 .archive-is)
 
-bytes-are : tab (recordLength L.z) (byteIn L.z L.archive (placeNumber L.z 2 0)) ≡ 0x2a ∷ 0xf3 ∷ 0xd5 ∷ 0xf3 ∷ 0xfe ∷ 0xbd ∷ []
+bytes-are : tab (recordLength (L.z 1)) (byteIn (L.z 1) (L.archive 1 1) (placeNumber (L.z 1) 2 0)) ≡ 0x2a ∷ 0xf3 ∷ 0xd5 ∷ 0xf3 ∷ 0xfe ∷ 0xbd ∷ []
 unfolding tab byteIn
-bytes-are = rw (lived .archive-is)
+bytes-are = rw (lived .0 .archive-is)
 
 first-row : maskRow L.maskKey L.id 0 0 ≡ 111
 unfolding maskRow F2 byteAt half quarterOf setFour quarter quadruples quartersTo rounds blockWords serialised wordAt start blockOf tab
@@ -55,15 +57,27 @@ second-row : maskRow L.maskKey L.id 1 0 ≡ 167
 unfolding maskRow F2 byteAt half quarterOf setFour quarter quadruples quartersTo rounds blockWords serialised wordAt start blockOf tab
 second-row = refl
 
+-- ---- three tags
+
+three-agree : (threeAgree (altered 0x01 (at (0x04 ∷ 0x00 ∷ 0x00 ∷ []))) ≡ false)
+    × (threeAgree (altered 0x01 (at (0x00 ∷ 0x2d ∷ 0x12 ∷ []))) ≡ false) × (threeAgree (altered 0x01 (at (0x04 ∷ 0x2d ∷ 0x12 ∷ []))) ≡ true)
+unfolding accepts fails anyBelow appended dataIn product sum times xtimes xtime modulus tab keyVector F1 byteAt half quarterOf setFour quarter quadruples quartersTo rounds blockWords serialised wordAt start blockOf
+three-agree = (refl, refl, refl)
+
+zero-second : (setupAnswer zeroSecond L.maskKey L.id 3 1 (0 ∷ 0 ∷ []) ≡ Done)
+    × (setupAnswer zeroSecond L.maskKey L.id 3 2 (0 ∷ 0 ∷ 0 ∷ 0 ∷ []) ≡ RefusedOutcome ZeroKeyVector)
+unfolding setupAnswer zeroVector refuse outside anyOf anyBelow tab keyVector F1 byteAt half quarterOf setFour quarter quadruples quartersTo rounds blockWords serialised wordAt start blockOf
+zero-second = (refl, refl)
+
 -- ---- its first call
 
 one-call : Admitted given allEmpty (firstCall ∷ [])
 one-call = (λ e. (refl, refl, refl, two-bytes 0x01 0x00 (omega arith) (omega arith)), tt)
 
 abbrev after-one : Table
-after-one = tableRun L.z allEmpty (firstCall ∷ [])
+after-one = tableRun (L.z 1) allEmpty (firstCall ∷ [])
 
-other-empty : (k : ℕ) → 0 < k → k < 6 → numbered L.z after-one k ≡ empty
+other-empty : (k : ℕ) → 0 < k → k < 6 → numbered (L.z 1) after-one k ≡ empty
 unfolding numbered answerFor refuse anyOf afterwards written over
 other-empty zero h l = absurd (omega arith)
 other-empty (suc zero) h l = refl
@@ -73,8 +87,8 @@ other-empty (suc (suc (suc (suc zero)))) h l = refl
 other-empty (suc (suc (suc (suc (suc zero))))) h l = refl
 other-empty (suc (suc (suc (suc (suc (suc k)))))) h l = absurd (omega arith)
 
-one-place-only : (k : ℕ) → 0 < k → k < placeCount L.z
-    → (markAt (archiveAfter fresh firstCall) k ≡ false) × ((e : ℕ) → e < recordLength L.z → byteIn L.z (archiveAfter fresh firstCall) k e ≡ 0)
+one-place-only : (k : ℕ) → 0 < k → k < placeCount (L.z 1)
+    → (markAt (archiveAfter fresh firstCall) k ≡ false) × ((e : ℕ) → e < recordLength (L.z 1) → byteIn (L.z 1) (archiveAfter fresh firstCall) k e ≡ 0)
 one-place-only k h l =
     rw (run-is given (firstCall ∷ []) one-call) (
       image-mark (setting given) (fits given) after-one k (omega arith) ∙ ap isFilled (other-empty k h l),
@@ -101,7 +115,7 @@ counted-right s out list count w =
     w .1 .number ∙ howMany-same (placeCount (sizesOf s)) _ (markAt s) (λ k h. ap (markAt s) (div-add-mod' k (sizesOf s .places)))
 
 pub hollow : Hollow
-unfolding product sum times xtimes xtime modulus appended dataIn namedRow mixed coded source mask maskSum auxiliary responseBytes pack packed bitsOf bitOf widths number tab accepts namedByte byteIn
+unfolding product sum times xtimes xtime modulus appended dataIn namedRow mixed coded source mask maskSum auxiliary flat responseBytes pack packed bitsOf bitOf widths number tab anyBelow fails accepts namedByte byteIn
 hollow =
     record {
       without-mask-sum = refl;
@@ -110,6 +124,11 @@ hollow =
       rows-differ = λ e. let x : _≡_ {A = ℕ} 111 167 = sym first-row ∙ e ∙ second-row in omega arith;
       one-accepted = refl;
       one-rejected = refl;
+      tag-0-adds-up = three-agree .0;
+      tags-1-and-2-add-up = three-agree .1;
+      all-add-up = three-agree .2;
+      vector-0-taken = zero-second .0;
+      vector-1-found = zero-second .1;
       accepted = first-answer;
       repaired-bytes = bytes-are;
       one-place = one-place-only;

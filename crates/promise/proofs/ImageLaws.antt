@@ -1,5 +1,5 @@
 -- What the image of a table says, and that a store into it is a change of the table. Assumes nothing.
-use Prim.Native.Nat.{ℕ, _+_, _<_, _≤_}
+use Prim.Native.Nat.{ℕ, _+_, _-_, _<_, _≤_}
 use mathlib.Core.Path.{_≡_, refl, sym, ap, _∙_}
 use mathlib.Core.Bool.{Bool, true, false}
 use mathlib.Core.List.{List}
@@ -14,11 +14,11 @@ use Rattle.lists.proofs.OverLaws.{over-map, over-same}
 use Rattle.field.specs.Field.{times}
 use Rattle.field.proofs.SumLaws.{sum-same}
 use Rattle.vector.specs.Vectors.{product, mixed}
-use Rattle.tag.specs.KeyVector.{withTag}
+use Rattle.tag.specs.KeyVector.{withTags}
 use Rattle.vector.proofs.VectorLaws.{mixed-scale, mixed-sum, mixed-same, mixed-zero}
 use Rattle.tag.proofs.TagLaws.{tags-combine}
 use Rattle.sizes.specs.Lengths.{placeCount, blockLength, recordLength, placeNumber}
-use Rattle.archive.specs.Layout.{sizesOf, idOf, markAt, filledIn, byteIn, badArchive, stored}
+use Rattle.archive.specs.Layout.{layoutOutside, sizesOf, idOf, markAt, filledIn, byteIn, badArchive, stored}
 use Rattle.archive.specs.Open.{opened}
 use Rattle.archive.specs.Blocks.{source, coded, codedRecord}
 use Rattle.archive.specs.Repair.{repairSum, repairByte, targetByte}
@@ -34,6 +34,7 @@ use Rattle.promise.proofs.TableLaws.{numbered-at, numbered-written, Fin
 
 -- a setting in range
 pub record Fit (s : Setting) : Type 0 where
+  pub laid : layoutOutside (s .layout) (s .z .tags) ≡ false
   pub ranged : Ranged (s .z)
   pub id-size : length (s .id) ≡ 8
 
@@ -48,23 +49,23 @@ module _ (s : Setting) (F : Fit s) (t : Table) where
 
   pub image-sizes : sizesOf (image s t) ≡ s .z
   unfolding image
-  image-sizes = sizes-back (s .z) (s .id) (F .id-size) mark rec (F .ranged)
+  image-sizes = sizes-back (s .layout) (s .z) (s .id) (F .id-size) mark rec (F .laid) (F .ranged)
 
   pub image-id : idOf (image s t) ≡ s .id
   unfolding image
-  image-id = id-back (s .z) (s .id) (F .id-size) mark rec
+  image-id = id-back (s .layout) (s .z) (s .id) (F .id-size) mark rec
 
   pub image-mark : (k : ℕ) → k < 48 → markAt (image s t) k ≡ isFilled (numbered (s .z) t k)
   unfolding image
-  image-mark k h = mark-back (s .z) (s .id) (F .id-size) mark rec k h
+  image-mark k h = mark-back (s .layout) (s .z) (s .id) (F .id-size) mark rec k h
 
   pub image-good : badArchive (image s t) ≡ false
   unfolding image numbered
-  image-good = good-back (s .z) (s .id) (F .id-size) mark rec (F .ranged) (λ k h. rw (le-ltb k (placeCount (s .z)) h))
+  image-good = good-back (s .layout) (s .z) (s .id) (F .id-size) mark rec (F .laid) (F .ranged) (λ k h. rw (le-ltb k (placeCount (s .z)) h))
 
   pub image-number : (k e : ℕ) → k < placeCount (s .z) → e < recordLength (s .z) → byteIn (s .z) (image s t) k e ≡ placeRecord s (numbered (s .z) t k) e
   unfolding image
-  image-number k e h he = byte-back (s .z) (s .id) (F .id-size) mark rec k e h he
+  image-number k e h he = byte-back (s .layout) (s .z) (s .id) (F .id-size) mark rec k e h he
 
   pub image-filled : (node place : ℕ) → node < s .z .nodes → place < s .z .places → filledIn (s .z) (image s t) node place ≡ isFilled (t node place)
   image-filled node place h hp =
@@ -87,8 +88,8 @@ module _ (s : Setting) (F : Fit s) (t : Table) where
   image-stored v node place count new bytes h hp hv hb =
       let K : ℕ = placeNumber (s .z) node place in
       let now = numbered-written (s .z) (F .ranged) node place count new t h hp in
-      stored-is (s .z) (s .id) (F .id-size) mark rec v K count bytes (omega (arith, mul-le-mul-right (s .z .places) h))
-      ∙ archive-same (s .z) (s .id) _ _ _ _
+      stored-is (s .layout) (s .z) (s .id) (F .id-size) mark rec v K count bytes (omega (arith, mul-le-mul-right (s .z .places) h))
+      ∙ archive-same (s .layout) (s .z) (s .id) _ _ _ _
       (λ k l. over-same K count (λ j. v) (λ j. isFilled (new j)) mark mark k hv refl
       ∙ sym (ap isFilled (now k) ∙ over-map isFilled K count new (numbered (s .z) t) k))
       (λ k e l le.
@@ -98,9 +99,9 @@ module _ (s : Setting) (F : Fit s) (t : Table) where
 
   -- ---- Repair
 
-  -- source block i with its tag
+  -- source block i with its tags
   abbrev tagged : ℕ → ℕ → ℕ
-  tagged i = withTag (blockLength (s .z)) (vector s) (source (s .z) (s .file) (s .padding) i)
+  tagged i = withTags (blockLength (s .z)) (vector s) (source (s .z) (s .file) (s .padding) i)
 
   -- a record is the source blocks with their tags, combined by the row (zeros where empty)
   pub record-mixed : (x : Place) (e : ℕ) → placeRecord s x e ≡ mixed (s .z .m) (element x) tagged e
@@ -133,13 +134,16 @@ module _ (s : Setting) (F : Fit s) (t : Table) where
   -- ---- blocks, tags and rows
 
   pub record-block : (x : Place) (e : ℕ) → e < blockLength (s .z) → placeRecord s x e ≡ coded (s .z) (s .file) (s .padding) (element x) e
-  unfolding codedRecord withTag coded
+  unfolding codedRecord withTags coded
   record-block empty e h = sym (mixed-zero (s .z .m) _ e)
   record-block (filled row) e h = rw (lt-ltb e (blockLength (s .z)) h)
 
-  pub record-tag : (row : List ℕ) → placeRecord s (filled row) (blockLength (s .z)) ≡ product (blockLength (s .z)) (coded (s .z) (s .file) (s .padding) (at row)) (vector s)
-  unfolding codedRecord withTag
-  record-tag row = rw (le-ltb (blockLength (s .z)) (blockLength (s .z)) (omega arith))
+  pub record-tag : (row : List ℕ) (k : ℕ) → placeRecord s (filled row) (blockLength (s .z) + k)
+      ≡ product (blockLength (s .z)) (coded (s .z) (s .file) (s .padding) (at row)) (vector s k)
+  unfolding codedRecord withTags
+  record-tag row k =
+      let q : blockLength (s .z) + k - blockLength (s .z) ≡ k = omega arith in
+      rw (le-ltb (blockLength (s .z) + k) (blockLength (s .z)) (omega arith), q)
 
   pub record-row : (x : Place) → Fine (s .z) x → (i : ℕ) → i < s .z .m → placeRecord s x (s .z .n + i) ≡ element x i
   record-row x f i h =
@@ -151,10 +155,10 @@ module _ (s : Setting) (F : Fit s) (t : Table) where
 
 -- ---- the image of the empty table is what Open writes
 
-pub opened-is : (s : Setting) → opened (s .z) (s .id) ≡ image s allEmpty
+pub opened-is : (s : Setting) → opened (s .layout) (s .z) (s .id) ≡ image s allEmpty
 unfolding opened image numbered
 opened-is s =
-    archive-same (s .z) (s .id) _ _ _ _ (λ k h. none (ltb k (placeCount (s .z)))) (λ k p h hp. zeros (ltb k (placeCount (s .z))) p)
+    archive-same (s .layout) (s .z) (s .id) _ _ _ _ (λ k h. none (ltb k (placeCount (s .z)))) (λ k p h hp. zeros (ltb k (placeCount (s .z))) p)
   where
     none : (x : Bool) → false ≡ isFilled (pick x empty empty)
     none true = refl

@@ -1,4 +1,4 @@
--- The life in numbers, by demand 3 and computing. Assumes nothing.
+-- Both lives in numbers, by demand 3 and computing. Assumes nothing.
 use Prim.Native.Nat.{ℕ, zero, suc, _<_}
 use mathlib.Core.Path.{_≡_, refl, _∙_}
 use mathlib.Core.Bool.{true}
@@ -14,14 +14,15 @@ use Rattle.keystream.specs.ChaCha.{half, quarterOf, setFour, quarter, quadruple
 use Rattle.keystream.specs.Draws.{byteAt}
 use Rattle.bits.specs.Fields.{bitOf, bitsOf, widths, number, packed, pack}
 use Rattle.sizes.specs.Sizes.{sizesOutside}
+use Rattle.sizes.specs.Lengths.{responseLength}
 use Rattle.vector.specs.Vectors.{product, mixed}
-use Rattle.tag.specs.KeyVector.{F1, keyVector, withTag}
+use Rattle.tag.specs.KeyVector.{F1, keyVector, withTags}
 use Rattle.tag.specs.Vector.{vectorAnswer, vectorOut}
 use Rattle.mask.specs.Masks.{F2, F3, maskRow, maskCoefficient, auxiliary, mask, maskSum}
-use Rattle.mask.specs.Setup.{setupAnswer, setupOut}
+use Rattle.mask.specs.Setup.{zeroVector, setupAnswer, setupOut}
 use Rattle.message.specs.Response.{responseBytes}
 use Rattle.message.specs.Challenge.{Challenge, items, challengeBytes, outOfRule, challengeAnswer, challengeOut}
-use Rattle.archive.specs.Layout.{archiveOf}
+use Rattle.archive.specs.Layout.{layoutOutside, tagField, archiveOf}
 use Rattle.archive.specs.Open.{openAnswer}
 use Rattle.archive.specs.Blocks.{source, coded, codedRecord}
 use Rattle.archive.specs.Calls.{answerFor}
@@ -30,71 +31,60 @@ use Rattle.promise.specs.Table.{allEmpty, isFilled, numbered, repairedRo
 use Rattle.promise.specs.Image.{image}
 use Rattle.promise.specs.Demand3.{Given, Admitted, setting, givenAuxiliary, Honest, message, expected, Demand}
 use Rattle.promise.specs.Life as L
-use Rattle.promise.specs.Life.{calls, table, archive, archiveBytes, Lived}
+use Rattle.promise.specs.Life.{Numbers, calls, table, archive, Lived}
 use Rattle.promise.proofs.DemandLaws.{demand3, run-is}
 
+-- ---- what is computed, of both lives
+
+abbrev pub Opens : Numbers → Type 0
+Opens w = openAnswer (w .layout) (L.z (w .tags)) L.id (L.lent (w .tags)) ≡ Done
+
+pub opens : Opens L.one × Opens L.three
+unfolding openAnswer layoutOutside refuse sizesOutside outside anyOf tab
+opens = (refl, refl)
+
+abbrev pub SetsUp : Numbers → Type 0
+SetsUp w = setupAnswer L.tagKey L.maskKey L.id 3 (w .tags) (L.auxiliaryLent (w .tags)) ≡ Done
+
+pub sets-up : SetsUp L.one × SetsUp L.three
+unfolding setupAnswer zeroVector refuse outside anyOf anyBelow tab keyVector F1 byteAt half quarterOf setFour quarter quadruples quartersTo rounds blockWords serialised wordAt start blockOf
+sets-up = (refl, refl)
+
+abbrev Answers : Numbers → Type 0
+Answers w =
+    tableAnswers (L.z (w .tags)) allEmpty (calls (w .tags))
+    ≡ Done ∷ Refused PlaceFilled ∷ Done ∷ Refused Length ∷ Done ∷ Refused PlaceEmpty ∷ Done ∷ Refused NoSuchPlace ∷ Done ∷ Done ∷ []
+
+table-answers : Answers L.one × Answers L.three
+unfolding answerFor refuse anyOf anyBelow outside afterwards written over
+table-answers = (refl, refl)
+
+-- both places of node 2
+abbrev Filled : Numbers → Type 0
+Filled w = (isFilled (table (w .tags) 2 0) ≡ true) × (isFilled (table (w .tags) 2 1) ≡ true)
+
+two-filled : Filled L.one × Filled L.three
+unfolding answerFor refuse anyOf anyBelow outside afterwards written over
+two-filled = ((refl, refl), (refl, refl))
+
+abbrev Vectors : Numbers → Type 0
+Vectors w = flat (w .tags) 5 (λ s. at (vectorOut L.tagKey L.id 3 2 s (tab 5 (λ i. 0)))) ≡ w .vectorBytes
+
+vectors : Vectors L.one × Vectors L.three
+unfolding vectorOut vectorAnswer afterwards refuse outside anyOf tab flat keyVector F1 byteAt half quarterOf setFour quarter quadruples quartersTo rounds blockWords serialised wordAt start blockOf
+vectors = (refl, refl)
+
 -- ---- the premises
-
-pub life-opens : openAnswer L.z L.id L.lent ≡ Done
-unfolding openAnswer refuse sizesOutside outside anyOf tab
-life-opens = refl
-
-pub life-sets-up : setupAnswer L.tagKey L.maskKey L.id 3 L.auxiliaryLent ≡ Done
-unfolding setupAnswer refuse outside anyOf anyBelow tab keyVector F1 byteAt half quarterOf setFour quarter quadruples quartersTo rounds blockWords serialised wordAt start blockOf
-life-sets-up = refl
 
 pub two-bytes : (a b : ℕ) → a < 256 → b < 256 → Bytes (a ∷ b ∷ [])
 two-bytes a b p q zero h = p
 two-bytes a b p q (suc zero) h = q
 two-bytes a b p q (suc (suc i)) h = absurd (omega arith)
 
-abbrev pub given : Given
-given = L.given life-opens life-sets-up (two-bytes 0x57 0x01 (omega arith) (omega arith))
-
-life-admitted : Admitted given allEmpty calls
-unfolding answerFor refuse anyOf anyBelow outside afterwards written over
-life-admitted = (
-  λ e. (refl, refl, refl, two-bytes 0x01 0x00 (omega arith) (omega arith)),
-  (
-    λ e. let x : _≡_ {A = ℕ} 0 1 = cc in absurd (omega arith),
-    (
-      λ e. (refl, refl, refl, two-bytes 0x02 0x03 (omega arith) (omega arith)),
-      (
-        λ e. let x : _≡_ {A = ℕ} 0 1 = cc in absurd (omega arith),
-        (
-          λ e. (refl, refl, refl, two-bytes 0x53 0xca (omega arith) (omega arith)),
-          (
-            λ e. tt,
-            (
-              λ e. (refl, refl, refl, two-bytes 0x00 0x00 (omega arith) (omega arith)),
-              (λ e. tt, (λ e. tt, (λ e. tt, tt))),
-            ),
-          ),
-        ),
-      ),
-    ),
-  ),
-)
-
--- the table's answers, and the image of the table after the calls, computed
-table-answers : tableAnswers (given .z) allEmpty calls
-    ≡ Done ∷ Refused PlaceFilled ∷ Done ∷ Refused Length ∷ Done ∷ Refused PlaceEmpty ∷ Done ∷ Refused NoSuchPlace ∷ Done ∷ Done ∷ []
-unfolding answerFor refuse anyOf anyBelow outside afterwards written over
-table-answers = refl
-
-image-is : image (setting given) table ≡ archiveBytes
-unfolding image archiveOf packed pack bitsOf bitOf widths number flat tab numbered answerFor refuse anyOf anyBelow outside afterwards written over repairedRow codedRecord coded source withTag product mixed sum times xtimes xtime modulus keyVector F1 byteAt half quarterOf setFour quarter quadruples quartersTo rounds blockWords serialised wordAt start blockOf
-image-is = refl
-
-life-vector : vectorOut L.tagKey L.id 3 2 (tab 5 (λ i. 0)) ≡ 0x04 ∷ 0x22 ∷ 0x0a ∷ 0x59 ∷ 0x61 ∷ []
-unfolding vectorOut vectorAnswer afterwards refuse outside anyOf tab keyVector F1 byteAt half quarterOf setFour quarter quadruples quartersTo rounds blockWords serialised wordAt start blockOf
-life-vector = refl
-
-life-elements : givenAuxiliary given ≡ 0xa7 ∷ 0xaa ∷ []
-unfolding setupOut afterwards setupAnswer refuse outside anyOf anyBelow auxiliary maskRow F2 product tab keyVector F1 byteAt half quarterOf setFour quarter quadruples quartersTo rounds blockWords serialised wordAt start blockOf sum times xtimes xtime modulus
-life-elements = refl
-
--- ---- the audit
+two-places : (j : ℕ) → j < 2 → at (0 ∷ 1 ∷ []) j < 2
+two-places zero h = omega arith
+two-places (suc zero) h = omega arith
+two-places (suc (suc j)) h = absurd (omega arith)
 
 abbrev asking : Challenge
 asking = record { node = 2; places = 0 ∷ 1 ∷ []; coefficients = 0x07 ∷ 0xb5 ∷ [] }
@@ -103,57 +93,112 @@ asked : challengeAnswer asking (tab 5 (λ i. 0)) ≡ Done
 unfolding challengeAnswer refuse outOfRule outside anyOf anyBelow tab
 asked = refl
 
-two-places : (j : ℕ) → j < 2 → at (0 ∷ 1 ∷ []) j < 2
-two-places zero h = omega arith
-two-places (suc zero) h = omega arith
-two-places (suc (suc j)) h = absurd (omega arith)
+module _ (w : Numbers) (o : Opens w) (u : SetsUp w) where
+  abbrev pub lives : Given
+  lives = L.given (w .layout) (w .tags) o u (two-bytes 0x57 0x01 (omega arith) (omega arith))
 
-two-filled : (j : ℕ) → j < 2 → isFilled (table 2 (at (0 ∷ 1 ∷ []) j)) ≡ true
-unfolding answerFor refuse anyOf anyBelow outside afterwards written over
-two-filled zero h = refl
-two-filled (suc zero) h = refl
-two-filled (suc (suc j)) h = absurd (omega arith)
+  life-admitted : Admitted lives allEmpty (calls (w .tags))
+  unfolding answerFor refuse anyOf anyBelow outside afterwards written over
+  life-admitted = (
+    λ e. (refl, refl, refl, two-bytes 0x01 0x00 (omega arith) (omega arith)),
+    (
+      λ e. let x : _≡_ {A = ℕ} 0 1 = cc in absurd (omega arith),
+      (
+        λ e. (refl, refl, refl, two-bytes 0x02 0x03 (omega arith) (omega arith)),
+        (
+          λ e. let x : _≡_ {A = ℕ} 0 1 = cc in absurd (omega arith),
+          (
+            λ e. (refl, refl, refl, two-bytes 0x53 0xca (omega arith) (omega arith)),
+            (
+              λ e. tt,
+              (
+                λ e. (refl, refl, refl, two-bytes 0x00 0x00 (omega arith) (omega arith)),
+                (λ e. tt, (λ e. tt, (λ e. tt, tt))),
+              ),
+            ),
+          ),
+        ),
+      ),
+    ),
+  )
 
-abbrev audited : Honest given table
-audited =
-    record {
-      c = asking;
-      lent = tab 5 (λ i. 0);
-      asked = asked;
-      coefficients-bytes = two-bytes 0x07 0xb5 (omega arith) (omega arith);
-      node-there = omega arith;
-      places-there = two-places;
-      places-filled = two-filled;
-      seed = 0 ∷ 20 ∷ 40 ∷ 60 ∷ 80 ∷ 100 ∷ 120 ∷ 140 ∷ 160 ∷ 180 ∷ 200 ∷ [];
-      seed-size = refl;
-      out = tab 17 (λ i. 0);
-      out-size = length-tab 17 (λ i. 0);
-    }
+  -- ---- the audit
 
-life-message : message given table archive audited ≡ 0x14 ∷ 0x40 ∷ 0x1c ∷ 0xda ∷ 0x80 ∷ []
-unfolding challengeOut afterwards challengeAnswer refuse outOfRule outside anyOf anyBelow tab challengeBytes items pack packed bitsOf bitOf widths number
-life-message = refl
+  both-filled : Filled w → (j : ℕ) → j < 2 → isFilled (table (w .tags) 2 (at (0 ∷ 1 ∷ []) j)) ≡ true
+  both-filled f zero h = f .0
+  both-filled f (suc zero) h = f .1
+  both-filled f (suc (suc j)) h = absurd (omega arith)
 
-life-expected : expected given table archive audited ≡ L.responseBytes
-unfolding responseFor responseBytes mask maskSum maskCoefficient F3 answerFor written over repairedRow coded source mixed setupOut afterwards setupAnswer refuse outside anyOf anyBelow auxiliary maskRow F2 product tab pack packed bitsOf bitOf widths number keyVector F1 byteAt half quarterOf setFour quarter quadruples quartersTo rounds blockWords serialised wordAt start blockOf sum times xtimes xtime modulus
-life-expected = refl
+  abbrev audited : Filled w → Honest lives (table (w .tags))
+  audited f =
+      record {
+        c = asking;
+        lent = tab 5 (λ i. 0);
+        asked = asked;
+        coefficients-bytes = two-bytes 0x07 0xb5 (omega arith) (omega arith);
+        node-there = omega arith;
+        places-there = two-places;
+        places-filled = both-filled f;
+        seed = 0 ∷ 20 ∷ 40 ∷ 60 ∷ 80 ∷ 100 ∷ 120 ∷ 140 ∷ 160 ∷ 180 ∷ 200 ∷ [];
+        seed-size = refl;
+        out = tab (responseLength 3 (w .tags)) (λ i. 0);
+        out-size = length-tab (responseLength 3 (w .tags)) (λ i. 0);
+      }
 
-life-demand : Demand given calls table archive
-life-demand = demand3 given calls life-admitted
+  life-message : (f : Filled w) → message lives (table (w .tags)) (archive (w .layout) (w .tags)) (audited f) ≡ 0x14 ∷ 0x40 ∷ 0x1c ∷ 0xda ∷ 0x80 ∷ []
+  unfolding challengeOut afterwards challengeAnswer refuse outOfRule outside anyOf anyBelow tab challengeBytes items pack packed bitsOf bitOf widths number
+  life-message f = refl
 
-pub lived : Lived
-lived =
-    record {
-      opens = life-opens;
-      sets-up = life-sets-up;
-      file-bytes = two-bytes 0x57 0x01 (omega arith) (omega arith);
-      admitted = life-admitted;
-      answers = life-demand .answers ∙ table-answers;
-      archive-is = run-is given calls life-admitted ∙ image-is;
-      vector-is = life-vector;
-      auxiliary-are = life-elements;
-      audit = audited;
-      message-is = life-message;
-      sent-is = life-demand .audits audited .sends ∙ life-expected;
-      accepted = life-demand .audits audited .accepts;
-    }
+  -- the image of the table after the calls, Setup's elements and the response: also computed
+  abbrev Image : Type 0
+  Image = image (setting lives) (table (w .tags)) ≡ w .archiveBytes
+
+  abbrev Elements : Type 0
+  Elements = givenAuxiliary lives ≡ w .auxiliaryBytes
+
+  abbrev Expected : Filled w → Type 0
+  Expected f = expected lives (table (w .tags)) (archive (w .layout) (w .tags)) (audited f) ≡ w .responseBytes
+
+  life : Answers w → (f : Filled w) → Vectors w → Image → Elements → Expected f → Lived w
+  life answers f vectors image elements response =
+      let d : Demand lives (calls (w .tags)) (table (w .tags)) (archive (w .layout) (w .tags)) = demand3 lives (calls (w .tags)) life-admitted in
+      let sends = d .audits (audited f) .sends ∙ response in
+      record {
+        opens = o;
+        sets-up = u;
+        file-bytes = two-bytes 0x57 0x01 (omega arith) (omega arith);
+        admitted = life-admitted;
+        answers = d .answers ∙ answers;
+        archive-is = run-is lives (calls (w .tags)) life-admitted ∙ image;
+        vectors-are = vectors;
+        auxiliary-are = elements;
+        audit = audited f;
+        message-is = life-message f;
+        sent-is = sends;
+        accepted = rw (← sends) (d .audits (audited f) .accepts);
+      }
+
+abbrev pub given : Given
+given = lives L.one (opens .0) (sets-up .0)
+
+image-one : Image L.one (opens .0) (sets-up .0)
+unfolding image archiveOf tagField packed pack bitsOf bitOf widths number flat tab numbered answerFor refuse anyOf anyBelow outside afterwards written over repairedRow codedRecord coded source withTags product mixed sum times xtimes xtime modulus keyVector F1 byteAt half quarterOf setFour quarter quadruples quartersTo rounds blockWords serialised wordAt start blockOf
+image-one = refl
+
+image-three : Image L.three (opens .1) (sets-up .1)
+unfolding image archiveOf tagField packed pack bitsOf bitOf widths number flat tab numbered answerFor refuse anyOf anyBelow outside afterwards written over repairedRow codedRecord coded source withTags product mixed sum times xtimes xtime modulus keyVector F1 byteAt half quarterOf setFour quarter quadruples quartersTo rounds blockWords serialised wordAt start blockOf
+image-three = refl
+
+elements : Elements L.one (opens .0) (sets-up .0) × Elements L.three (opens .1) (sets-up .1)
+unfolding setupOut afterwards setupAnswer zeroVector refuse outside anyOf anyBelow auxiliary maskRow F2 product flat tab keyVector F1 byteAt half quarterOf setFour quarter quadruples quartersTo rounds blockWords serialised wordAt start blockOf sum times xtimes xtime modulus
+elements = (refl, refl)
+
+responses : Expected L.one (opens .0) (sets-up .0) (two-filled .0) × Expected L.three (opens .1) (sets-up .1) (two-filled .1)
+unfolding responseFor responseBytes mask maskSum maskCoefficient F3 answerFor written over repairedRow coded source mixed setupOut afterwards setupAnswer zeroVector refuse outside anyOf anyBelow auxiliary maskRow F2 product flat tab pack packed bitsOf bitOf widths number keyVector F1 byteAt half quarterOf setFour quarter quadruples quartersTo rounds blockWords serialised wordAt start blockOf sum times xtimes xtime modulus
+responses = (refl, refl)
+
+pub lived : Lived L.one × Lived L.three
+lived = (
+  life L.one (opens .0) (sets-up .0) (table-answers .0) (two-filled .0) (vectors .0) image-one (elements .0) (responses .0),
+  life L.three (opens .1) (sets-up .1) (table-answers .1) (two-filled .1) (vectors .1) image-three (elements .1) (responses .1),
+)

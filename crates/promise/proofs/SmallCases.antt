@@ -13,13 +13,13 @@ use Rattle.sizes.specs.declared.Sizes.{Sizes}
 use Rattle.sizes.specs.Sizes.{sizesOutside}
 use Rattle.message.specs.Challenge.{Challenge, challengeOf, malformedChallenge, challengeAnswer, challengeOut}
 use Rattle.message.proofs.ChallengeLaws.{in-rule, asked-even, asked-rule, asked-bytes, challenge-back as read-back, well-formed}
-use Rattle.archive.specs.Layout.{sizesOf, markAt, filledIn, badFor}
+use Rattle.archive.specs.Layout.{layoutOutside, tagField, layoutOf, sizesOf, markAt, filledIn, badFor, badArchive}
 use Rattle.archive.specs.Open.{openAnswer}
 use Rattle.archive.specs.Inventory.{inventoryBefore, InventoryFor, InventoryAllows}
 use Rattle.answer.specs.declared.Counted.the-variants.{Count}
 use Rattle.sizes.proofs.SizeLaws.{ranged}
 use Rattle.promise.specs.Worked as W
-use Rattle.promise.specs.SmallCases.{SmallCases}
+use Rattle.promise.specs.SmallCases.{headed, SmallCases}
 use Rattle.promise.proofs.ImageLaws.{image-good, opened-is}
 use Rattle.promise.proofs.Worked.{two-sizes}
 
@@ -33,7 +33,7 @@ both-back c lent asked bytes =
 -- ---- Inventory of the archive with two places
 
 lent-right : inventoryBefore W.z W.two (0 ∷ 0 ∷ 0 ∷ []) ≡ Done
-unfolding refuse badFor sizesOutside outside anyOf anyBelow sizesOf fieldAt bitAt number markAt
+unfolding refuse badFor layoutOutside tagField layoutOf sizesOutside outside anyOf anyBelow sizesOf fieldAt bitAt number markAt
 lent-right = refl
 
 once-each : (node place : ℕ) → node < 3 → place < 1
@@ -72,17 +72,31 @@ not-twice w =
     let e : _≡_ {A = ℕ} 2 1 = v .1 .once 2 0 (omega arith) (omega arith) in
     omega arith
 
+-- ---- bad headers
+
+all-bad : tab 5 (λ i. bit (badArchive (headed i))) ≡ 1 ∷ 1 ∷ 1 ∷ 1 ∷ 1 ∷ []
+unfolding tab badFor layoutOutside tagField layoutOf sizesOutside outside anyOf anyBelow sizesOf fieldAt bitAt number markAt
+all-bad = refl
+
 pub smallCases : SmallCases
-unfolding pack packed bitsOf bitOf widths number tab openAnswer refuse sizesOutside outside anyOf
+unfolding pack packed bitsOf bitOf widths number tab openAnswer refuse sizesOutside outside anyOf layoutOutside tagField
 smallCases =
     record {
       empty-image = opened-is;
-      good-image = λ s t r i. image-good s (record { ranged = ranged (s .z) r; id-size = i }) t;
+      good-image = λ s t l r i. image-good s (record { laid = l; ranged = ranged (s .z) r; id-size = i }) t;
       challenge-back = both-back;
       header = refl;
+      header-2-1 = refl;
+      header-2-10 = refl;
       length-36 = refl;
+      length-63 = refl;
       n-2 = λ id archive. refl;
       n-1025 = λ id archive. refl;
+      tags-0 = λ id archive. refl;
+      tags-11 = λ id archive. refl;
+      layout-1-tags-2 = λ id archive. refl;
+      layout-3 = λ id archive. refl;
+      bad-headers = all-bad;
       marks-a0 = refl;
       listed = two-listed;
       twice = not-twice;

@@ -1,5 +1,5 @@
 -- Unmasking gives back the block that was masked. Assumes nothing.
-use Prim.Native.Nat.{ℕ}
+use Prim.Native.Nat.{ℕ, _+_}
 use mathlib.Core.Path.{_≡_}
 use mathlib.Core.List.{List}
 use Rattle.answer.specs.declared.Outcome.the-variants.{Done}
@@ -22,7 +22,7 @@ module _ (s maskKey auxiliary seed message lent : List ℕ) (done : proveAnswer 
   block = namedByte (sizesOf s) s (challengeOf message)
 
   response-is : proveOut s maskKey auxiliary seed message lent
-      ≡ responseBytes (sizesOf s .n) (challengeOf message .node) block (block (blockLength (sizesOf s)))
+      ≡ responseBytes (sizesOf s .n) (sizesOf s .tags) (challengeOf message .node) block (λ k. block (blockLength (sizesOf s) + k))
       (mask (sizesOf s .n) (maskCoefficient maskKey seed) (maskRow maskKey (idOf s))) seed (maskSum (sizesOf s .n) (maskCoefficient maskKey seed) auxiliary)
   unfolding proveOut provedFor responseFor
   response-is = after-done _ _ done
@@ -32,4 +32,5 @@ unmasking s maskKey auxiliary seed message lent out done size =
     let p = provable s maskKey auxiliary seed message lent done in
     let R = good-sizes s (p .good) in
     rw (response-is s maskKey auxiliary seed message lent done)
-    (unmask-gives _ _ _ _ _ _ _ _ (R .n-low) (p .seed-length) _ (R .n-high) (readable message (p .formed) .node-low) (good-id s (p .good)) (p .key-length) size)
+    (unmask-gives _ _ _ _ _ _ _ _ _ (R .n-low) (p .seed-length) _ (R .n-high) (R .tags-low) (R .tags-high) (readable message (p .formed) .node-low)
+    (good-id s (p .good)) (p .key-length) size)

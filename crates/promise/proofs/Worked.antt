@@ -8,7 +8,7 @@ use native.Mathlib.Nat.{mod-eq-of-lt}
 use native.Mathlib.Omega.{arith}
 use lib.Bits.{xor-zero-r}
 use lib.Dec.{lit<, lit≤}
-use Rattle.lists.specs.Lists.{at, tab, anyOf, anyBelow, howMany}
+use Rattle.lists.specs.Lists.{at, tab, flat, anyOf, anyBelow, howMany}
 use Rattle.answer.specs.Refusals.{refuse, outside, afterwards}
 use Rattle.field.specs.Field.{plus, sum, modulus, xtime, xtimes, times, last, inverseOf}
 use Rattle.field.specs.Inverse.{inverted}
@@ -18,12 +18,12 @@ use Rattle.bits.specs.Fields.{bitOf, bitsOf, widths, number, packed, pack, bitA
 use Rattle.sizes.specs.declared.Sizes.{Sizes}
 use Rattle.sizes.specs.Sizes.{sizesOutside}
 use Rattle.vector.specs.Vectors.{product, mixed}
-use Rattle.tag.specs.KeyVector.{withTag}
+use Rattle.tag.specs.KeyVector.{withTags}
 use Rattle.mask.specs.Masks.{auxiliary, mask, maskSum}
 use Rattle.message.specs.Response.{responseBytes, dataIn}
 use Rattle.message.specs.Challenge.{items, challengeBytes, outOfRule, challengeAnswer, challengeOut}
-use Rattle.audit.specs.Verdict.{namedRow, appended, accepts}
-use Rattle.archive.specs.Layout.{sizesOf, markAt, byteIn, badFor}
+use Rattle.audit.specs.Verdict.{namedRow, appended, fails, accepts}
+use Rattle.archive.specs.Layout.{layoutOutside, tagField, layoutOf, sizesOf, markAt, byteIn, badFor}
 use Rattle.archive.specs.Blocks.{source, coded, codedRecord}
 use Rattle.archive.specs.Prove.{namedByte}
 use Rattle.archive.specs.Read.{rowIn, Blind, among, Combined, Solved, readBefore, ReadFor, ReadAllows}
@@ -36,19 +36,19 @@ use Rattle.promise.proofs.Life.{two-bytes}
 -- ---- Read: the archive with two places
 
 two-before : readBefore W.z W.two (0 ∷ 0 ∷ []) ≡ Done
-unfolding refuse badFor sizesOutside outside anyOf anyBelow sizesOf fieldAt bitAt number markAt byteIn
+unfolding refuse badFor layoutOutside tagField layoutOf sizesOutside outside anyOf anyBelow sizesOf fieldAt bitAt number markAt byteIn
 two-before = refl
 
 one-before : readBefore W.z W.one (0 ∷ 0 ∷ []) ≡ Done
-unfolding refuse badFor sizesOutside outside anyOf anyBelow sizesOf fieldAt bitAt number markAt byteIn
+unfolding refuse badFor layoutOutside tagField layoutOf sizesOutside outside anyOf anyBelow sizesOf fieldAt bitAt number markAt byteIn
 one-before = refl
 
 pub two-sizes : sizesOf W.two ≡ W.z
-unfolding sizesOf fieldAt bitAt number markAt byteIn
+unfolding sizesOf layoutOf fieldAt bitAt number markAt byteIn
 two-sizes = refl
 
 one-sizes : sizesOf W.one ≡ W.z
-unfolding sizesOf fieldAt bitAt number markAt byteIn
+unfolding sizesOf layoutOf fieldAt bitAt number markAt byteIn
 one-sizes = refl
 
 -- a product of two elements
@@ -180,7 +180,7 @@ reads-one =
 -- ---- the table
 
 pub worked : W.Worked
-unfolding sum times xtimes xtime modulus inverted inverseOf last withTag product source mixed coded codedRecord tab auxiliary mask maskSum responseBytes dataIn pack packed bitsOf bitOf widths number items challengeBytes challengeAnswer challengeOut outOfRule refuse outside afterwards anyOf anyBelow namedRow appended accepts namedByte byteIn
+unfolding sum times xtimes xtime modulus inverted inverseOf last withTags product source mixed coded codedRecord tab flat auxiliary mask maskSum responseBytes dataIn pack packed bitsOf bitOf widths number items challengeBytes challengeAnswer challengeOut outOfRule refuse outside afterwards anyOf anyBelow namedRow appended fails accepts namedByte byteIn
 worked =
     record {
       product-83 = refl;

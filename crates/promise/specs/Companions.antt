@@ -21,8 +21,8 @@ abbrev pub Unmasking : Type 0
 Unmasking =
     (s maskKey auxiliary seed message lent out : List ℕ) → proveAnswer s maskKey auxiliary seed message lent ≡ Done
     → length out ≡ sizesOf s .n - 2
-    → (unmaskAnswer (sizesOf s .n) (idOf s) maskKey (proveOut s maskKey auxiliary seed message lent) out ≡ Done)
-    × (unmaskOut (sizesOf s .n) (idOf s) maskKey (proveOut s maskKey auxiliary seed message lent) out
+    → (unmaskAnswer (sizesOf s .n) (sizesOf s .tags) (idOf s) maskKey (proveOut s maskKey auxiliary seed message lent) out ≡ Done)
+    × (unmaskOut (sizesOf s .n) (sizesOf s .tags) (idOf s) maskKey (proveOut s maskKey auxiliary seed message lent) out
     ≡ tab (sizesOf s .n - 2) (namedByte (sizesOf s) s (challengeOf message)))
 
 -- two answers of Read that may differ only in the number of places consulted

@@ -1,5 +1,5 @@
 -- Demand 3 (docs/STATEMENT.md): one claim about a whole list of calls.
-use Prim.Native.Nat.{ℕ, _<_}
+use Prim.Native.Nat.{ℕ, _+_, _<_}
 use mathlib.Core.Path.{_≡_}
 use mathlib.Core.Logic.{_↔_, _≢_}
 use mathlib.Core.Bool.{true}
@@ -31,30 +31,31 @@ use Rattle.promise.specs.Image.{Setting, vector}
 
 -- ---- the premises
 
--- an archive that Open made, a file with its padding, and two keys
+-- an archive that Open made, in either layout, a file with its padding, and two keys
 pub record Given : Type 0 where
+  pub layout : ℕ
   pub z : Sizes
   pub id : List ℕ
   -- what Open was lent
   pub lent : List ℕ
-  pub open-done : openAnswer z id lent ≡ Done
+  pub open-done : openAnswer layout z id lent ≡ Done
   pub file : List ℕ
   pub file-size : length file ≡ fileLength z
   pub file-bytes : Bytes file
   pub padding : List ℕ
   pub padding-size : length padding ≡ paddingLength z
-  -- Setup accepted both keys, for this id and n
+  -- Setup accepted both keys, for this id, n and number of tags
   pub tagKey : List ℕ
   pub maskKey : List ℕ
   pub auxiliary-lent : List ℕ
-  pub setup-done : setupAnswer tagKey maskKey id (z .n) auxiliary-lent ≡ Done
+  pub setup-done : setupAnswer tagKey maskKey id (z .n) (z .tags) auxiliary-lent ≡ Done
 
 abbrev pub setting : (g : Given) → Setting
-setting g = record { z = g .z; id = g .id; file = g .file; padding = g .padding; tagKey = g .tagKey }
+setting g = record { layout = g .layout; z = g .z; id = g .id; file = g .file; padding = g .padding; tagKey = g .tagKey }
 
 -- what Setup wrote
 abbrev pub givenAuxiliary : (g : Given) → List ℕ
-givenAuxiliary g = setupOut (g .tagKey) (g .maskKey) (g .id) (g .z .n) (g .auxiliary-lent)
+givenAuxiliary g = setupOut (g .tagKey) (g .maskKey) (g .id) (g .z .n) (g .z .tags) (g .auxiliary-lent)
 
 -- an Encode that takes the one file, padding and tag key; its row is of bytes
 abbrev pub TakesOne : Given → Call → Type 0
@@ -81,7 +82,7 @@ pub record Honest (g : Given) (t : Table) : Type 0 where
   pub seed : List ℕ
   pub seed-size : length seed ≡ seedLength
   pub out : List ℕ
-  pub out-size : length out ≡ responseLength (g .z .n)
+  pub out-size : length out ≡ responseLength (g .z .n) (g .z .tags)
 
 module _ (g : Given) (t : Table) (archive : List ℕ) (h : Honest g t) where
   -- what Challenge wrote
@@ -107,31 +108,37 @@ module _ (g : Given) (t : Table) (archive : List ℕ) (h : Honest g t) where
   abbrev pub namedBlock : ℕ → ℕ
   namedBlock = coded (g .z) (g .file) (g .padding) namedRow
 
-  -- the response of the scheme for that block and its tag
+  -- the response of the scheme for that block and its tags
   abbrev pub expected : List ℕ
   expected =
-      responseFor (g .z .n) (g .id) (g .maskKey) (givenAuxiliary g) (h .seed) (h .c .node) namedBlock
-      (product (blockLength (g .z)) namedBlock (vector (setting g)))
+      responseFor (g .z .n) (g .z .tags) (g .id) (g .maskKey) (givenAuxiliary g) (h .seed) (h .c .node) namedBlock
+      (λ s. product (blockLength (g .z)) namedBlock (vector (setting g) s))
 
   pub record AuditHolds : Type 0 where
     pub proves : proveAnswer archive (g .maskKey) (givenAuxiliary g) (h .seed) message (h .out) ≡ Done
     pub sends : sent ≡ expected
     pub accepts : says sent ≡ Accepted
 
-  -- a change is the sum of two responses' elements at one position; those of the n data elements, times the key vector, are together those
-  -- of tag and mask sum
+  -- a change is the sum of two responses' elements at one position; those of the n data elements, times key vector s, are together those
+  -- of tag s and mask sum s
+  abbrev pub ChangesAddUpAt : List ℕ → ℕ → Type 0
+  ChangesAddUpAt other s =
+      product (g .z .n) (λ e. plus (dataIn (g .z .n) (g .z .tags) other e) (dataIn (g .z .n) (g .z .tags) sent e)) (vector (setting g) s)
+      ≡ plus (plus (tagIn (g .z .n) (g .z .tags) other s) (tagIn (g .z .n) (g .z .tags) sent s))
+      (plus (sumIn (g .z .n) other s) (sumIn (g .z .n) sent s))
+
+  -- so it is for every tag
   abbrev pub ChangesAddUp : List ℕ → Type 0
-  ChangesAddUp other =
-      product (g .z .n) (λ e. plus (dataIn (g .z .n) other e) (dataIn (g .z .n) sent e)) (vector (setting g))
-      ≡ plus (plus (tagIn (g .z .n) other) (tagIn (g .z .n) sent)) (plus (sumIn (g .z .n) other) (sumIn (g .z .n) sent))
+  ChangesAddUp other = (s : ℕ) → s < g .z .tags → ChangesAddUpAt other s
 
 -- ---- the conclusion
 
--- a place holds the source blocks combined by a row, with their tag
+-- a place holds the source blocks combined by a row, with their tags
 pub record HoldsCoded (g : Given) (archive : List ℕ) (k : ℕ) (row : List ℕ) : Type 0 where
   pub block : (e : ℕ) → e < blockLength (g .z) → byteIn (g .z) archive k e ≡ coded (g .z) (g .file) (g .padding) (at row) e
-  pub tag : byteIn (g .z) archive k (blockLength (g .z))
-      ≡ product (blockLength (g .z)) (coded (g .z) (g .file) (g .padding) (at row)) (vector (setting g))
+  pub tag : (s : ℕ) → s < g .z .tags
+      → byteIn (g .z) archive k (blockLength (g .z) + s)
+      ≡ product (blockLength (g .z)) (coded (g .z) (g .file) (g .padding) (at row)) (vector (setting g) s)
 
 -- a vector of m bytes, not all zero, is orthogonal to all rows in the table
 abbrev pub TableBlind : (z : Sizes) (t : Table) → Type 0
@@ -139,7 +146,7 @@ TableBlind z t = Blind z (λ k. isFilled (numbered z t k)) (λ k. element (numbe
 
 pub record Demand (g : Given) (calls : List Call) (t : Table) (archive : List ℕ) : Type 0 where
   -- the archive answers, marks and stores rows as the table does
-  pub answers : archiveAnswers (openOut (g .z) (g .id) (g .lent)) calls ≡ tableAnswers (g .z) allEmpty calls
+  pub answers : archiveAnswers (openOut (g .layout) (g .z) (g .id) (g .lent)) calls ≡ tableAnswers (g .z) allEmpty calls
   pub marks : (k : ℕ) → k < markCount → markAt archive k ≡ isFilled (numbered (g .z) t k)
   pub rows : (node place : ℕ) (row : List ℕ) → node < g .z .nodes → place < g .z .places → t node place ≡ filled row
       → tab (g .z .m) (rowIn (g .z) archive (placeNumber (g .z) node place)) ≡ row
@@ -170,4 +177,4 @@ pub record Demand (g : Given) (calls : List Call) (t : Table) (archive : List �
 abbrev pub Demand3 : Type 0
 Demand3 =
     (g : Given) (calls : List Call) → Admitted g allEmpty calls
-    → Demand g calls (tableRun (g .z) allEmpty calls) (archiveRun (openOut (g .z) (g .id) (g .lent)) calls)
+    → Demand g calls (tableRun (g .z) allEmpty calls) (archiveRun (openOut (g .layout) (g .z) (g .id) (g .lent)) calls)

@@ -1,16 +1,19 @@
 -- Mistakes that a program of this kind can have, and programs that do nothing: for each, the fact about the definitions that rules it
 -- out. The numbers are those of the worked values and of the life in numbers.
-use Prim.Native.Nat.{ℕ, _<_}
+use Prim.Native.Nat.{ℕ, _*_, _<_}
 use mathlib.Core.Path.{_≡_}
 use mathlib.Core.Logic.{_≢_}
-use mathlib.Core.Bool.{true, false}
-use mathlib.Core.List.{List, [], _∷_}
+use mathlib.Core.Bool.{Bool, true, false}
+use mathlib.Core.List.{List, [], _∷_, _++_}
 use lib.Dec.{eqb}
-use Rattle.lists.specs.Lists.{tab, howMany}
-use Rattle.answer.specs.declared.Outcome.the-variants.{Done}
-use Rattle.answer.specs.declared.Refusal.the-variants.{Unreadable}
+use Rattle.lists.specs.Lists.{at, tab, howMany}
+use Rattle.answer.specs.declared.Outcome.the-variants.{Done, Refused as RefusedOutcome}
+use Rattle.answer.specs.declared.Refusal.the-variants.{Unreadable, ZeroKeyVector}
+use Rattle.field.specs.Field.{plus}
 use Rattle.vector.specs.Vectors.{product}
+use Rattle.tag.specs.KeyVector.{keyVector}
 use Rattle.mask.specs.Masks.{maskRow}
+use Rattle.mask.specs.Setup.{setupAnswer}
 use Rattle.message.specs.Response.{tagIn}
 use Rattle.audit.specs.Verdict.{namedRow, appended, accepts}
 use Rattle.sizes.specs.Lengths.{recordLength, placeNumber, placeCount}
@@ -25,31 +28,54 @@ use Rattle.promise.specs.Life as L
 
 -- an archive as Open wrote it in the life, and after its first call
 abbrev pub fresh : List ℕ
-fresh = openOut L.z L.id L.lent
+fresh = openOut 1 (L.z 1) L.id (L.lent 1)
 
 abbrev pub firstCall : Call
 firstCall = encode 0 0 L.file L.padding L.tagKey (0x01 ∷ 0x00 ∷ [])
 
+-- the response of the life with three tags, its masked byte changed by d, and mask sum s by x s
+abbrev pub altered : (d : ℕ) (x : ℕ → ℕ) → List ℕ
+altered d x =
+    0x24 ∷ plus 0x2a d
+    ∷ (tab 11 (λ i. 20 * i) ++ (plus 0x63 (x 0) ∷ plus 0xce (x 1) ∷ plus 0x2b (x 2) ∷ 0xc8 ∷ 0x55 ∷ 0x4d ∷ 0xfd ∷ 0x76 ∷ []))
+
+-- what Verdict finds of it, by the rows of node 2 combined by 07 and b5
+abbrev pub threeAgree : List ℕ → Bool
+threeAgree = accepts (L.z 3) (keyVector L.tagKey L.id) (at (0xc8 ∷ 0xde ∷ []))
+
+-- a tag key of which vector 1 alone starts with zero
+abbrev pub zeroSecond : List ℕ
+zeroSecond = tab 30 (λ i. 0) ++ (0x01 ∷ 0x1f ∷ [])
+
 pub record Hollow : Type 0 where
   -- the tag compared alone, without the mask sum: an honest response would be rejected (`audits`)
-  pub without-mask-sum : eqb (product 5 (appended 3 W.response W.combined) W.vector) (tagIn 3 W.response) ≡ false
+  pub without-mask-sum : eqb (product 5 (appended 3 1 W.response W.combined) (W.vectors 0)) (tagIn 3 1 W.response 0) ≡ false
   -- rows that come from the box, so that it may replay old blocks: against other rows the response is rejected
-  pub replayed : accepts W.z W.vector (namedRow W.z (0x01 ∷ 0x00 ∷ []) W.challenge) W.response ≡ false
+  pub replayed : accepts W.z W.vectors (namedRow W.z (0x01 ∷ 0x00 ∷ []) W.challenge) W.response ≡ false
   -- a Repair that combines data and copies a row: the repaired row is no helper's row (`rows`)
-  pub repaired-row : tab 2 (rowIn L.z L.archive (placeNumber L.z 2 0)) ≡ 0xf3 ∷ 0xfe ∷ []
+  pub repaired-row : tab 2 (rowIn (L.z 1) (L.archive 1 1) (placeNumber (L.z 1) 2 0)) ≡ 0xf3 ∷ 0xfe ∷ []
   -- mask rows without their index in the nonce: two rows differ
   pub rows-differ : maskRow L.maskKey L.id 0 0 ≢ maskRow L.maskKey L.id 1 0
   -- a Verdict that says one thing of all: one response is accepted, and one is not (`audits`, `altered`)
-  pub one-accepted : accepts W.z W.vector W.combined W.response ≡ true
-  pub one-rejected : accepts W.z W.vector W.combined (W.bytes 0xbb 0x4c 0x02 0x0c 0x06) ≡ false
+  pub one-accepted : accepts W.z W.vectors W.combined W.response ≡ true
+  pub one-rejected : accepts W.z W.vectors W.combined (W.bytes 0xbb 0x4c 0x02 0x0c 0x06) ≡ false
+  -- a Verdict that looks at the first of three tags, or that one of them is enough for: changes that add up for tag 0, or for tags 1 and 2,
+  -- are rejected, and only those that add up for all are not (`altered`)
+  pub tag-0-adds-up : threeAgree (altered 0x01 (at (0x04 ∷ 0x00 ∷ 0x00 ∷ []))) ≡ false
+  pub tags-1-and-2-add-up : threeAgree (altered 0x01 (at (0x00 ∷ 0x2d ∷ 0x12 ∷ []))) ≡ false
+  pub all-add-up : threeAgree (altered 0x01 (at (0x04 ∷ 0x2d ∷ 0x12 ∷ []))) ≡ true
+  -- a Setup that looks at vector 0: one tag is accepted, two are refused for vector 1
+  pub vector-0-taken : setupAnswer zeroSecond L.maskKey L.id 3 1 (0 ∷ 0 ∷ []) ≡ Done
+  pub vector-1-found : setupAnswer zeroSecond L.maskKey L.id 3 2 (0 ∷ 0 ∷ 0 ∷ 0 ∷ []) ≡ RefusedOutcome ZeroKeyVector
   -- refusing everything: some call is accepted (`answers`)
   pub accepted : archiveAnswer fresh firstCall ≡ Done
   -- a Repair that only marks: the place holds these bytes (`places`)
-  pub repaired-bytes : tab (recordLength L.z) (byteIn L.z L.archive (placeNumber L.z 2 0)) ≡ 0x2a ∷ 0xf3 ∷ 0xd5 ∷ 0xf3 ∷ 0xfe ∷ 0xbd ∷ []
+  pub repaired-bytes : tab (recordLength (L.z 1)) (byteIn (L.z 1) (L.archive 1 1) (placeNumber (L.z 1) 2 0))
+      ≡ 0x2a ∷ 0xf3 ∷ 0xd5 ∷ 0xf3 ∷ 0xfe ∷ 0xbd ∷ []
   -- an Encode that fills other places too: every other place is as it was (`places`, `marks`)
-  pub one-place : (k : ℕ) → 0 < k → k < placeCount L.z
+  pub one-place : (k : ℕ) → 0 < k → k < placeCount (L.z 1)
       → (markAt (archiveAfter fresh firstCall) k ≡ false)
-      × ((e : ℕ) → e < recordLength L.z → byteIn L.z (archiveAfter fresh firstCall) k e ≡ 0)
+      × ((e : ℕ) → e < recordLength (L.z 1) → byteIn (L.z 1) (archiveAfter fresh firstCall) k e ≡ 0)
   -- a Read that does not look: 8 comes with a vector that is orthogonal to every filled row
   pub seen : (s out written : List ℕ) → ReadAllows s out (Refused Unreadable) written → Blind (sizesOf s) (markAt s) (rowIn (sizesOf s) s)
   -- an invented number from Inventory: it is that of the filled places

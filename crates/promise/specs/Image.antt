@@ -1,5 +1,5 @@
 -- The archive that a row table stands for: header, marks of the filled places, and for each of them its row's combination of the
--- source blocks with that combination's tag; zeros for the empty ones.
+-- source blocks with that combination's tags; zeros for the empty ones.
 use Prim.Native.Nat.{ℕ}
 use mathlib.Core.List.{List}
 use Rattle.lists.specs.Lists.{at}
@@ -11,13 +11,15 @@ use Rattle.promise.specs.Table.{Place, empty, filled, Table, isFilled, n
 
 -- what an archive is made of
 pub record Setting : Type 0 where
+  pub layout : ℕ
   pub z : Sizes
   pub id : List ℕ
   pub file : List ℕ
   pub padding : List ℕ
   pub tagKey : List ℕ
 
-abbrev pub vector : (s : Setting) → ℕ → ℕ
+-- the key vector of each tag
+abbrev pub vector : (s : Setting) → ℕ → ℕ → ℕ
 vector s = keyVector (s .tagKey) (s .id)
 
 abbrev pub placeRecord : Setting → Place → ℕ → ℕ
@@ -25,4 +27,5 @@ placeRecord s empty e = 0
 placeRecord s (filled row) e = codedRecord (s .z) (vector s) (s .file) (s .padding) (at row) e
 
 unfoldable pub image : (s : Setting) (t : Table) → List ℕ
-image s t = archiveOf (s .z) (s .id) (λ k. isFilled (numbered (s .z) t k)) (λ k. placeRecord s (numbered (s .z) t k))
+image s t =
+    archiveOf (s .layout) (s .z) (s .id) (λ k. isFilled (numbered (s .z) t k)) (λ k. placeRecord s (numbered (s .z) t k))

@@ -1,12 +1,13 @@
--- A life in numbers: a concrete archive, keys and a list of calls that meet every premise of demand 3, with accepted Encodes, an
--- accepted Repair, refused calls that carry other data, and an honest audit.
-use Prim.Native.Nat.{ℕ}
+-- A life in numbers, lived twice, in layout 1 and in layout 2 with three tags: a concrete archive, keys and a list of calls that meet every
+-- premise of demand 3, with accepted Encodes, an accepted Repair, refused calls that carry other data, and an honest audit.
+use Prim.Native.Nat.{ℕ, _*_}
 use mathlib.Core.Path.{_≡_, refl}
 use mathlib.Core.List.{List, [], _∷_}
-use Rattle.lists.specs.Lists.{tab, Bytes}
+use Rattle.lists.specs.Lists.{at, tab, flat, Bytes}
 use Rattle.answer.specs.declared.Outcome.the-variants.{Done, Refused}
 use Rattle.answer.specs.declared.Refusal.the-variants.{Length, NoSuchPlace, PlaceEmpty, PlaceFilled}
 use Rattle.sizes.specs.declared.Sizes.{Sizes}
+use Rattle.sizes.specs.Lengths.{recordLength, archiveLength, auxiliaryLength}
 use Rattle.tag.specs.Vector.{vectorOut}
 use Rattle.mask.specs.Setup.{setupAnswer}
 use Rattle.audit.specs.declared.Judgement.the-variants.{Accepted}
@@ -15,8 +16,8 @@ use Rattle.archive.specs.Calls.{Call, encode, lose, repair, archiveAnswers, arc
 use Rattle.promise.specs.Table.{Table, allEmpty, tableRun}
 use Rattle.promise.specs.Demand3.{Given, givenAuxiliary, Admitted, Honest, message, sent, says}
 
-abbrev pub z : Sizes
-z = record { n = 3; m = 2; places = 2; nodes = 3 }
+abbrev pub z : (tags : ℕ) → Sizes
+z tags = record { n = 3; m = 2; places = 2; nodes = 3; tags = tags }
 
 abbrev pub id : List ℕ
 id =
@@ -48,33 +49,35 @@ abbrev pub thetas : List ℕ
 thetas =
     0x03 ∷ 0x20 ∷ 0x3d ∷ 0x5a ∷ 0x77 ∷ 0x94 ∷ 0xb1 ∷ 0xce ∷ []
 
-abbrev pub calls : List Call
-calls =
+abbrev pub calls : (tags : ℕ) → List Call
+calls tags =
     encode 0 0 file padding tagKey (0x01 ∷ 0x00 ∷ [])
     ∷ encode 0 0 (0x09 ∷ 0x09 ∷ []) padding maskKey (0x01 ∷ 0x01 ∷ [])
     ∷ encode 0 1 file padding tagKey (0x02 ∷ 0x03 ∷ [])
     ∷ encode 1 0 [] [] [] []
     ∷ encode 1 0 file padding tagKey (0x53 ∷ 0xca ∷ [])
-    ∷ repair 2 (0 ∷ 1 ∷ []) 2 gammas thetas 24
+    ∷ repair 2 (0 ∷ 1 ∷ []) 2 gammas thetas (4 * recordLength (z tags))
     ∷ encode 1 1 file padding tagKey (0x00 ∷ 0x00 ∷ [])
     ∷ lose 3
-    ∷ repair 2 (0 ∷ 1 ∷ []) 2 gammas thetas 24
+    ∷ repair 2 (0 ∷ 1 ∷ []) 2 gammas thetas (4 * recordLength (z tags))
     ∷ lose 0
     ∷ []
 
-abbrev pub lent : List ℕ
-lent = tab 54 (λ i. 0)
+abbrev pub lent : (tags : ℕ) → List ℕ
+lent tags = tab (archiveLength (z tags)) (λ i. 0)
 
-abbrev pub auxiliaryLent : List ℕ
-auxiliaryLent = 0 ∷ 0 ∷ []
+abbrev pub auxiliaryLent : (tags : ℕ) → List ℕ
+auxiliaryLent tags = tab (auxiliaryLength 3 tags) (λ i. 0)
 
 -- the setting, once Open and Setup have accepted it
-abbrev pub given : openAnswer z id lent ≡ Done → setupAnswer tagKey maskKey id 3 auxiliaryLent ≡ Done → Bytes file → Given
-given opens sets-up bytes =
+abbrev pub given : (layout tags : ℕ) → openAnswer layout (z tags) id (lent tags) ≡ Done
+    → setupAnswer tagKey maskKey id 3 tags (auxiliaryLent tags) ≡ Done → Bytes file → Given
+given layout tags opens sets-up bytes =
     record {
-      z = z;
+      layout = layout;
+      z = z tags;
       id = id;
-      lent = lent;
+      lent = lent tags;
       open-done = opens;
       file = file;
       file-size = refl;
@@ -83,39 +86,75 @@ given opens sets-up bytes =
       padding-size = refl;
       tagKey = tagKey;
       maskKey = maskKey;
-      auxiliary-lent = auxiliaryLent;
+      auxiliary-lent = auxiliaryLent tags;
       setup-done = sets-up;
     }
 
-abbrev pub table : Table
-table = tableRun z allEmpty calls
+abbrev pub table : (tags : ℕ) → Table
+table tags = tableRun (z tags) allEmpty (calls tags)
 
-abbrev pub archive : List ℕ
-archive = archiveRun (openOut z id (lent)) calls
+abbrev pub archive : (layout tags : ℕ) → List ℕ
+archive layout tags = archiveRun (openOut layout (z tags) id (lent tags)) (calls tags)
 
-abbrev pub archiveBytes : List ℕ
-archiveBytes =
-    0x10 ∷ 0x06 ∷ 0x22 ∷ 0x60 ∷ 0x01 ∷ 0x02 ∷ 0x03 ∷ 0x04 ∷ 0x05 ∷ 0x06 ∷ 0x07 ∷ 0x08 ∷ 0x3c ∷ 0x00 ∷ 0x00 ∷ 0x00 ∷ 0x00 ∷ 0x00
-    ∷ 0x00 ∷ 0x00 ∷ 0x00 ∷ 0x00 ∷ 0x00 ∷ 0x00 ∷ 0x00 ∷ 0x00 ∷ 0x00 ∷ 0x00 ∷ 0x00 ∷ 0x00 ∷ 0x28 ∷ 0x53 ∷ 0x05 ∷ 0x53 ∷ 0xca ∷ 0xa5
-    ∷ 0x00 ∷ 0x00 ∷ 0x00 ∷ 0x00 ∷ 0x00 ∷ 0x00 ∷ 0x2a ∷ 0xf3 ∷ 0xd5 ∷ 0xf3 ∷ 0xfe ∷ 0xbd ∷ 0x40 ∷ 0x72 ∷ 0xc1 ∷ 0x72 ∷ 0xfb ∷ 0xca ∷ []
+-- what the life leaves and sends, in a layout and a number of tags
+pub record Numbers : Type 0 where
+  pub layout : ℕ
+  pub tags : ℕ
+  pub archiveBytes : List ℕ
+  -- the key vectors and the auxiliary elements, tag by tag
+  pub vectorBytes : List ℕ
+  pub auxiliaryBytes : List ℕ
+  pub responseBytes : List ℕ
 
-abbrev pub responseBytes : List ℕ
-responseBytes =
-    0x24 ∷ 0x2a ∷ 0x00 ∷ 0x14 ∷ 0x28 ∷ 0x3c ∷ 0x50 ∷ 0x64 ∷ 0x78 ∷ 0x8c ∷ 0xa0 ∷ 0xb4 ∷ 0xc8 ∷ 0x63 ∷ 0xc8 ∷ 0x55 ∷ 0x4d ∷ []
+abbrev pub one : Numbers
+one =
+    record {
+      layout = 1;
+      tags = 1;
+      archiveBytes =
+          0x10 ∷ 0x06 ∷ 0x22 ∷ 0x60 ∷ 0x01 ∷ 0x02 ∷ 0x03 ∷ 0x04 ∷ 0x05 ∷ 0x06 ∷ 0x07 ∷ 0x08 ∷ 0x3c ∷ 0x00 ∷ 0x00 ∷ 0x00 ∷ 0x00 ∷ 0x00
+          ∷ 0x00 ∷ 0x00 ∷ 0x00 ∷ 0x00 ∷ 0x00 ∷ 0x00 ∷ 0x00 ∷ 0x00 ∷ 0x00 ∷ 0x00 ∷ 0x00 ∷ 0x00 ∷ 0x28 ∷ 0x53 ∷ 0x05 ∷ 0x53 ∷ 0xca ∷ 0xa5
+          ∷ 0x00 ∷ 0x00 ∷ 0x00 ∷ 0x00 ∷ 0x00 ∷ 0x00 ∷ 0x2a ∷ 0xf3 ∷ 0xd5 ∷ 0xf3 ∷ 0xfe ∷ 0xbd ∷ 0x40 ∷ 0x72 ∷ 0xc1 ∷ 0x72 ∷ 0xfb ∷ 0xca
+          ∷ [];
+      vectorBytes = 0x04 ∷ 0x22 ∷ 0x0a ∷ 0x59 ∷ 0x61 ∷ [];
+      auxiliaryBytes = 0xa7 ∷ 0xaa ∷ [];
+      responseBytes =
+          0x24 ∷ 0x2a ∷ 0x00 ∷ 0x14 ∷ 0x28 ∷ 0x3c ∷ 0x50 ∷ 0x64 ∷ 0x78 ∷ 0x8c ∷ 0xa0 ∷ 0xb4 ∷ 0xc8 ∷ 0x63 ∷ 0xc8 ∷ 0x55 ∷ 0x4d ∷ [];
+    }
 
-pub record Lived : Type 0 where
-  pub opens : openAnswer z id lent ≡ Done
-  pub sets-up : setupAnswer tagKey maskKey id 3 auxiliaryLent ≡ Done
+abbrev pub three : Numbers
+three =
+    record {
+      layout = 2;
+      tags = 3;
+      archiveBytes =
+          0x20 ∷ 0x06 ∷ 0x22 ∷ 0x66 ∷ 0x01 ∷ 0x02 ∷ 0x03 ∷ 0x04 ∷ 0x05 ∷ 0x06 ∷ 0x07 ∷ 0x08 ∷ 0x3c ∷ 0x00 ∷ 0x00 ∷ 0x00 ∷ 0x00 ∷ 0x00
+          ∷ 0x00 ∷ 0x00 ∷ 0x00 ∷ 0x00 ∷ 0x00 ∷ 0x00 ∷ 0x00 ∷ 0x00 ∷ 0x00 ∷ 0x00 ∷ 0x00 ∷ 0x00 ∷ 0x00 ∷ 0x00 ∷ 0x00 ∷ 0x00
+          ∷ 0x28 ∷ 0x53 ∷ 0x05 ∷ 0x53 ∷ 0xca ∷ 0xa5 ∷ 0x96 ∷ 0x15 ∷ 0x00 ∷ 0x00 ∷ 0x00 ∷ 0x00 ∷ 0x00 ∷ 0x00 ∷ 0x00 ∷ 0x00
+          ∷ 0x2a ∷ 0xf3 ∷ 0xd5 ∷ 0xf3 ∷ 0xfe ∷ 0xbd ∷ 0x28 ∷ 0x64 ∷ 0x40 ∷ 0x72 ∷ 0xc1 ∷ 0x72 ∷ 0xfb ∷ 0xca ∷ 0x98 ∷ 0x20 ∷ [];
+      vectorBytes =
+          0x04 ∷ 0x22 ∷ 0x0a ∷ 0x59 ∷ 0x61 ∷ 0x2d ∷ 0xf9 ∷ 0x53 ∷ 0x39 ∷ 0xc5 ∷ 0x12 ∷ 0x8a ∷ 0xcc ∷ 0x81 ∷ 0x33 ∷ [];
+      auxiliaryBytes = 0xa7 ∷ 0xaa ∷ 0xd2 ∷ 0x65 ∷ 0x74 ∷ 0xcb ∷ [];
+      responseBytes =
+          0x24 ∷ 0x2a ∷ 0x00 ∷ 0x14 ∷ 0x28 ∷ 0x3c ∷ 0x50 ∷ 0x64 ∷ 0x78 ∷ 0x8c ∷ 0xa0 ∷ 0xb4 ∷ 0xc8 ∷ 0x63 ∷ 0xce ∷ 0x2b ∷ 0xc8 ∷ 0x55 ∷ 0x4d
+          ∷ 0xfd ∷ 0x76 ∷ [];
+    }
+
+pub record Lived (w : Numbers) : Type 0 where
+  pub opens : openAnswer (w .layout) (z (w .tags)) id (lent (w .tags)) ≡ Done
+  pub sets-up : setupAnswer tagKey maskKey id 3 (w .tags) (auxiliaryLent (w .tags)) ≡ Done
   pub file-bytes : Bytes file
-  pub admitted : Admitted (given opens sets-up file-bytes) allEmpty calls
-  pub answers : archiveAnswers (openOut z id lent) calls
+  pub admitted : Admitted (given (w .layout) (w .tags) opens sets-up file-bytes) allEmpty (calls (w .tags))
+  pub answers : archiveAnswers (openOut (w .layout) (z (w .tags)) id (lent (w .tags))) (calls (w .tags))
       ≡ Done ∷ Refused PlaceFilled ∷ Done ∷ Refused Length ∷ Done ∷ Refused PlaceEmpty ∷ Done ∷ Refused NoSuchPlace ∷ Done ∷ Done ∷ []
-  pub archive-is : archive ≡ archiveBytes
-  pub vector-is : vectorOut tagKey id 3 2 (tab 5 (λ i. 0)) ≡ 0x04 ∷ 0x22 ∷ 0x0a ∷ 0x59 ∷ 0x61 ∷ []
-  pub auxiliary-are : givenAuxiliary (given opens sets-up file-bytes) ≡ 0xa7 ∷ 0xaa ∷ []
+  pub archive-is : archive (w .layout) (w .tags) ≡ w .archiveBytes
+  pub vectors-are : flat (w .tags) 5 (λ s. at (vectorOut tagKey id 3 2 s (tab 5 (λ i. 0)))) ≡ w .vectorBytes
+  pub auxiliary-are : givenAuxiliary (given (w .layout) (w .tags) opens sets-up file-bytes) ≡ w .auxiliaryBytes
   -- node 2, places 0 and 1, coefficients 07 and b5
-  pub audit : Honest (given opens sets-up file-bytes) table
-  pub message-is : message (given opens sets-up file-bytes) table archive audit ≡ 0x14 ∷ 0x40 ∷ 0x1c ∷ 0xda ∷ 0x80 ∷ []
-  pub sent-is : sent (given opens sets-up file-bytes) table archive audit ≡ responseBytes
-  pub accepted : says (given opens sets-up file-bytes) table archive audit (sent (given opens sets-up file-bytes) table archive audit)
-      ≡ Accepted
+  pub audit : Honest (given (w .layout) (w .tags) opens sets-up file-bytes) (table (w .tags))
+  pub message-is : message (given (w .layout) (w .tags) opens sets-up file-bytes) (table (w .tags)) (archive (w .layout) (w .tags)) audit
+      ≡ 0x14 ∷ 0x40 ∷ 0x1c ∷ 0xda ∷ 0x80 ∷ []
+  pub sent-is : sent (given (w .layout) (w .tags) opens sets-up file-bytes) (table (w .tags)) (archive (w .layout) (w .tags)) audit
+      ≡ w .responseBytes
+  pub accepted : says (given (w .layout) (w .tags) opens sets-up file-bytes) (table (w .tags)) (archive (w .layout) (w .tags)) audit
+      (w .responseBytes) ≡ Accepted

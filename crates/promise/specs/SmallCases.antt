@@ -11,18 +11,18 @@ use Rattle.sizes.specs.declared.Sizes.{Sizes}
 use Rattle.sizes.specs.Sizes.{sizesOutside}
 use Rattle.message.specs.Challenge.{Challenge, challengeOf, malformedChallenge, challengeAnswer, challengeOut}
 use Rattle.sizes.specs.Lengths.{archiveLength}
-use Rattle.archive.specs.Layout.{sizeFields, badArchive}
+use Rattle.archive.specs.Layout.{layoutOutside, sizeFields, badArchive}
 use Rattle.archive.specs.Open.{opened, openAnswer}
-use Rattle.lists.specs.Lists.{Bytes}
+use Rattle.lists.specs.Lists.{at, tab, bit, Bytes}
 use Rattle.archive.specs.Inventory.{InventoryAllows}
 use Rattle.answer.specs.declared.Counted.the-variants.{Count}
 use Rattle.promise.specs.Table.{Table, allEmpty}
 use Rattle.promise.specs.Image.{Setting, image}
 use Rattle.promise.specs.Worked as W
 
--- n, m=2, M=1, N=3
-abbrev pub sizes : (n : ℕ) → Sizes
-sizes n = record { n = n; m = 2; places = 1; nodes = 3 }
+-- n, m=2, M=1, N=3, L
+abbrev pub sizes : (n tags : ℕ) → Sizes
+sizes n tags = record { n = n; m = 2; places = 1; nodes = 3; tags = tags }
 
 -- boxes 0 and 2 filled
 abbrev pub marks : ℕ → Bool
@@ -31,19 +31,35 @@ marks (suc zero) = false
 marks (suc (suc zero)) = true
 marks (suc (suc (suc k))) = false
 
+-- an archive of zeros behind the first and the last byte of a bad header
+abbrev pub headed : (i : ℕ) → List ℕ
+headed i =
+    at (0x30 ∷ 0x10 ∷ 0x20 ∷ 0x20 ∷ 0x20 ∷ []) i ∷ 0x06 ∷ 0x21 ∷ at (0x62 ∷ 0x62 ∷ 0x60 ∷ 0x76 ∷ 0x63 ∷ []) i
+    ∷ tab (at (32 ∷ 32 ∷ 29 ∷ 62 ∷ 32 ∷ []) i) (λ j. 0)
+
 pub record SmallCases : Type 0 where
   -- the image of the empty table is what Open writes
-  pub empty-image : (s : Setting) → opened (s .z) (s .id) ≡ image s allEmpty
+  pub empty-image : (s : Setting) → opened (s .layout) (s .z) (s .id) ≡ image s allEmpty
   -- an image is not a bad archive
-  pub good-image : (s : Setting) (t : Table) → sizesOutside (s .z) ≡ false → length (s .id) ≡ 8 → badArchive (image s t) ≡ false
+  pub good-image : (s : Setting) (t : Table) → layoutOutside (s .layout) (s .z .tags) ≡ false → sizesOutside (s .z) ≡ false
+      → length (s .id) ≡ 8 → badArchive (image s t) ≡ false
   -- packing and parsing a challenge give back its fields, and a message that Challenge wrote is not malformed
   pub challenge-back : (c : Challenge) (lent : List ℕ) → challengeAnswer c lent ≡ Done → Bytes (c .coefficients)
       → (challengeOf (challengeOut c lent) ≡ c) × (malformedChallenge (challengeOut c lent) ≡ false)
-  -- a header and its length, two sizes that are refused, and the marks of two filled boxes
-  pub header : pack (sizeFields (sizes 3)) ≡ 0x10 ∷ 0x06 ∷ 0x21 ∷ 0x60 ∷ []
-  pub length-36 : archiveLength (sizes 3) ≡ 36
-  pub n-2 : (id archive : List ℕ) → outcomeNumber (openAnswer (sizes 2) id archive) ≡ 1
-  pub n-1025 : (id archive : List ℕ) → outcomeNumber (openAnswer (sizes 1025) id archive) ≡ 1
+  -- headers of both layouts and their lengths, sizes and layouts that are refused, and the marks of two filled boxes
+  pub header : pack (sizeFields 1 (sizes 3 1)) ≡ 0x10 ∷ 0x06 ∷ 0x21 ∷ 0x60 ∷ []
+  pub header-2-1 : pack (sizeFields 2 (sizes 3 1)) ≡ 0x20 ∷ 0x06 ∷ 0x21 ∷ 0x62 ∷ []
+  pub header-2-10 : pack (sizeFields 2 (sizes 3 10)) ≡ 0x20 ∷ 0x06 ∷ 0x21 ∷ 0x74 ∷ []
+  pub length-36 : archiveLength (sizes 3 1) ≡ 36
+  pub length-63 : archiveLength (sizes 3 10) ≡ 63
+  pub n-2 : (id archive : List ℕ) → outcomeNumber (openAnswer 1 (sizes 2 1) id archive) ≡ 1
+  pub n-1025 : (id archive : List ℕ) → outcomeNumber (openAnswer 1 (sizes 1025 1) id archive) ≡ 1
+  pub tags-0 : (id archive : List ℕ) → outcomeNumber (openAnswer 2 (sizes 3 0) id archive) ≡ 1
+  pub tags-11 : (id archive : List ℕ) → outcomeNumber (openAnswer 2 (sizes 3 11) id archive) ≡ 1
+  pub layout-1-tags-2 : (id archive : List ℕ) → outcomeNumber (openAnswer 1 (sizes 3 2) id archive) ≡ 1
+  pub layout-3 : (id archive : List ℕ) → outcomeNumber (openAnswer 3 (sizes 3 1) id archive) ≡ 1
+  -- headers that are bad: no such layout, layout 1 with tags, layout 2 with none or eleven, the spare bit
+  pub bad-headers : tab 5 (λ i. bit (badArchive (headed i))) ≡ 1 ∷ 1 ∷ 1 ∷ 1 ∷ 1 ∷ []
   pub marks-a0 : packed 6 marks ≡ 0xa0 ∷ 0 ∷ 0 ∷ 0 ∷ 0 ∷ 0 ∷ []
   -- Inventory of that archive may list place 0 of box 2 first, 8·2+0, then that of box 0; not a place twice
   pub listed : InventoryAllows W.two (0 ∷ 0 ∷ 0 ∷ []) (Count 2) (16 ∷ 0 ∷ 0 ∷ [])

@@ -1,5 +1,5 @@
--- Worked values, computed from the definitions: n=3 and m=2, over a key vector that comes from no key.
-use Prim.Native.Nat.{ℕ}
+-- Worked values, computed from the definitions: n=3, m=2 and one tag, over a key vector that comes from no key.
+use Prim.Native.Nat.{ℕ, _+_}
 use mathlib.Core.Path.{_≡_}
 use mathlib.Core.Bool.{true, false}
 use mathlib.Core.List.{List, [], _∷_, _++_}
@@ -20,13 +20,13 @@ use Rattle.archive.specs.Prove.{namedByte}
 use Rattle.archive.specs.Read.{ReadAllows}
 use Rattle.answer.specs.Counted.{countedNumber}
 use Rattle.answer.specs.declared.Counted.the-variants.{Count, Refused}
-use Rattle.tag.specs.KeyVector.{withTag}
+use Rattle.tag.specs.KeyVector.{withTags}
 
 abbrev pub z : Sizes
-z = record { n = 3; m = 2; places = 1; nodes = 3 }
+z = record { n = 3; m = 2; places = 1; nodes = 3; tags = 1 }
 
-abbrev pub vector : ℕ → ℕ
-vector = at (0x83 ∷ 0x02 ∷ 0x01 ∷ 0x03 ∷ 0x05 ∷ [])
+abbrev pub vectors : (s e : ℕ) → ℕ
+vectors s = at (0x83 ∷ 0x02 ∷ 0x01 ∷ 0x03 ∷ 0x05 ∷ [])
 
 -- the file and padding whose source blocks are b1 and b2
 abbrev pub file : List ℕ
@@ -75,8 +75,8 @@ one = header 0x80 ++ (0x57 ∷ 0x01 ∷ 0x00 ∷ 0x01 ∷ 0x00 ∷ 0xc0 ∷ 0 �
 -- node 2 of that archive answers the challenge; the seed is zeros
 abbrev pub response : List ℕ
 response =
-    responseBytes 3 2 (namedByte z two challenge) (namedByte z two challenge 5) (mask 3 coefficients maskRows) seed
-    (maskSum 3 coefficients (auxiliary 3 vector maskRows))
+    responseBytes 3 1 2 (namedByte z two challenge) (λ s. namedByte z two challenge (5 + s)) (mask 3 coefficients maskRows) seed
+    (maskSum 3 coefficients (auxiliary 3 1 vectors maskRows))
 
 pub record Worked : Type 0 where
   -- products and inverses
@@ -85,24 +85,24 @@ pub record Worked : Type 0 where
   pub inverse-53 : inverted 0x53 ≡ Element 0xca
   pub inverse-00 : outcomeNumber (invertedOutcome (inverted 0x00)) ≡ 10
   -- the source blocks b1 and b2, with their tags
-  pub b1 : tab 6 (withTag 5 vector (source z file padding 0)) ≡ 0x57 ∷ 0x01 ∷ 0x00 ∷ 0x01 ∷ 0x00 ∷ 0xc0 ∷ []
-  pub b2 : tab 6 (withTag 5 vector (source z file padding 1)) ≡ 0x01 ∷ 0x00 ∷ 0x04 ∷ 0x00 ∷ 0x01 ∷ 0x82 ∷ []
+  pub b1 : tab 6 (withTags 5 vectors (source z file padding 0)) ≡ 0x57 ∷ 0x01 ∷ 0x00 ∷ 0x01 ∷ 0x00 ∷ 0xc0 ∷ []
+  pub b2 : tab 6 (withTags 5 vectors (source z file padding 1)) ≡ 0x01 ∷ 0x00 ∷ 0x04 ∷ 0x00 ∷ 0x01 ∷ 0x82 ∷ []
   -- their combination by 02 and 03, with its tag
-  pub combination : tab 6 (codedRecord z vector file padding row) ≡ 0xad ∷ 0x02 ∷ 0x0c ∷ 0x02 ∷ 0x03 ∷ 0x06 ∷ []
+  pub combination : tab 6 (codedRecord z vectors file padding row) ≡ 0xad ∷ 0x02 ∷ 0x0c ∷ 0x02 ∷ 0x03 ∷ 0x06 ∷ []
   -- the tags c0 and 82 combined by the same coefficients
   pub tags : plus (times 0x02 0xc0) (times 0x03 0x82) ≡ 0x06
   -- auxiliary elements, mask and mask sum
-  pub auxiliary-is : auxiliary 3 vector maskRows ≡ 0xb9 ∷ 0xf7 ∷ []
+  pub auxiliary-is : auxiliary 3 1 vectors maskRows ≡ 0xb9 ∷ 0xf7 ∷ []
   pub mask-17 : mask 3 coefficients maskRows 0 ≡ 0x17
-  pub sum-4c : maskSum 3 coefficients (0xb9 ∷ 0xf7 ∷ []) ≡ 0x4c
+  pub sum-4c : maskSum 3 coefficients (0xb9 ∷ 0xf7 ∷ []) 0 ≡ 0x4c
   -- the response, and both sides of what Verdict compares
   pub response-is : response ≡ bytes 0xba 0x4c 0x02 0x0c 0x06
-  pub left : product 5 (appended 3 response combined) vector ≡ 0x4a
-  pub right : plus (tagIn 3 response) (sumIn 3 response) ≡ 0x4a
-  pub accepted : accepts z vector combined response ≡ true
+  pub left : product 5 (appended 3 1 response combined) (vectors 0) ≡ 0x4a
+  pub right : plus (tagIn 3 1 response 0) (sumIn 3 response 0) ≡ 0x4a
+  pub accepted : accepts z vectors combined response ≡ true
   -- one change is found; two that add up are not
-  pub changed : accepts z vector combined (bytes (plus 0xba 0x01) 0x4c 0x02 0x0c 0x06) ≡ false
-  pub changed-both : accepts z vector combined (bytes (plus 0xba 0x01) (plus 0x4c 0x83) 0x02 0x0c 0x06) ≡ true
+  pub changed : accepts z vectors combined (bytes (plus 0xba 0x01) 0x4c 0x02 0x0c 0x06) ≡ false
+  pub changed-both : accepts z vectors combined (bytes (plus 0xba 0x01) (plus 0x4c 0x83) 0x02 0x0c 0x06) ≡ true
   -- the challenge, and its bytes
   pub asked : outcomeNumber (challengeAnswer challenge (0 ∷ 0 ∷ 0 ∷ [])) ≡ 0
   pub message : challengeOut challenge (0 ∷ 0 ∷ 0 ∷ []) ≡ 0x14 ∷ 0x20 ∷ 0x04 ∷ []

@@ -1,6 +1,6 @@
 // What the archive promises, as theorems: each is carried by an empty function, so that the crate is not proved without its proof.
 ghost use Rattle.promise.specs.Demand3.{Demand3};
-ghost use Rattle.promise.specs.Life.{Lived};
+ghost use Rattle.promise.specs.Life.{one, three, Lived};
 ghost use Rattle.promise.specs.Worked.{Worked};
 ghost use Rattle.promise.specs.SmallCases.{SmallCases};
 ghost use Rattle.promise.specs.Hollow.{Hollow};
@@ -26,9 +26,9 @@ pub fn inventory_is_fixed()
     ensures { λ _. ⌜ InventoryIsFixed ⌝ }
 {}
 
-// The premises of demand 3 can be met: a concrete life, its bytes computed.
+// The premises of demand 3 can be met, in layout 1 and with three tags: a concrete life, its bytes computed.
 pub fn premises_can_be_met()
-    ensures { λ _. ⌜ Lived ⌝ }
+    ensures { λ _. ⌜ Lived one × Lived three ⌝ }
 {}
 
 // The worked values, as one table.

@@ -70,5 +70,5 @@ module _ (s message : List ℕ) (good : badArchive s ≡ false) (ok : malformedC
     unfolding namedByte byteIn
     records-named made i h =
         let R = good-sizes s good in
-        named-read c s start recordMost len _ (omega (arith, length-is, R .n-high, R .m-high)) made
+        named-read c s start recordMost len _ (omega (arith, length-is, R .n-high, R .m-high, R .tags-high)) made
         (λ j p. ap (at s) (rw (start-is, length-is) (omega arith))) i (omega (arith, length-is))

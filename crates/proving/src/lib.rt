@@ -3,10 +3,12 @@ ghost use mathlib.Core.Path.{_≡_};
 ghost use mathlib.Core.Bool.{false, not};
 ghost use Prim.Native.Nat.{ℕ, _+_, _-_, _<_, _≤_};
 ghost use lib.ListN.{length};
-ghost use Rattle.lists.specs.Lists.{at, anyBelow};
+ghost use Rattle.lists.specs.Lists.{at, anyBelow, put};
 ghost use Rattle.answer.specs.Refusals.{Passed};
 ghost use Rattle.field.specs.PrivateTables.{FieldTables};
-ghost use Rattle.sizes.specs.Lengths.{responseLength, recordLength, idLength, nLeast, nMost, recordMost, seedLength};
+ghost use Rattle.sizes.specs.Lengths.{responseLength, recordLength, idLength, nLeast, nMost, mMost, tagsMost, recordMost, seedLength};
+ghost use Rattle.sizes.specs.Lengths.{auxiliaryLength, sumAt};
+ghost use Rattle.mask.specs.Masks.{maskCoefficient, maskSum};
 ghost use Rattle.message.specs.Challenge.{challengeOf, malformedChallenge, notThere};
 ghost use Rattle.archive.specs.Layout.{sizesOf, idOf, filledIn, badArchive};
 ghost use Rattle.archive.specs.Prove.{proveAnswer, responseFor, namedByte, provedFor, proveOut};
@@ -66,9 +68,9 @@ fn prove_check(
     }
     let z = sizes_in(archive);
     if (mask_key.len() != sizes::KEY_LENGTH)
-        | (auxiliary.len() != z.n - 1)
+        | (auxiliary.len() != sizes::auxiliary_length(z.n, z.tags))
         | (seed.len() != sizes::SEED_LENGTH)
-        | (response.len() != z.n + sizes::RESPONSE_PAST_N)
+        | (response.len() != sizes::response_length(z.n, z.tags))
     {
         return Outcome::Refused(Refusal::Length);
     }
@@ -106,11 +108,31 @@ fn named_record(tables: &Tables, archive: &[u8], message: &[u8]) -> [u8; sizes::
     record
 }
 
+// The mask sums of a seed, in their place in the response.
+fn write_sums(key: Key, seed: &[u8], n: usize, tags: usize, auxiliary: &[u8], response: &mut [u8])
+    requires { ⌜ (nLeast ≤ n)
+        × (n ≤ nMost)
+        × (tags ≤ tagsMost)
+        × (length (now seed) ≡ seedLength)
+        × (length (now auxiliary) ≡ auxiliaryLength n tags)
+        × (length (now response) ≡ responseLength n tags) ⌝ }
+    ensures { λ _.
+        let seed = now (seed .entry) in
+        let auxiliary = now (auxiliary .entry) in
+        ⌜ now (response .exit)
+        ≡ put tags (sumAt n 0) (maskSum n (maskCoefficient key seed) auxiliary) (now (response .entry)) ⌝ }
+{
+    for s in 0..tags {
+        response[n + sizes::SUM_PAST_N + s] = mask::mask_sum(key, seed, n, auxiliary, s);
+    }
+}
+
 // The response that a combined record makes, part by part.
 fn write_parts(
     node: usize,
     n: usize,
     m: usize,
+    tags: usize,
     combined: &[u8],
     key: Key,
     id: &[u8],
@@ -121,26 +143,40 @@ fn write_parts(
     requires { ⌜ (node < 8)
         × (nLeast ≤ n)
         × (n ≤ nMost)
-        × (m ≤ 16)
+        × (m ≤ mMost)
+        × (tags ≤ tagsMost)
         × (length (now combined) ≡ recordMost)
         × (length (now id) ≡ idLength)
-        × (length (now auxiliary) ≡ n - 1)
+        × (length (now auxiliary) ≡ auxiliaryLength n tags)
         × (length (now seed) ≡ seedLength)
-        × (length (now response) ≡ responseLength n) ⌝ }
+        × (length (now response) ≡ responseLength n tags) ⌝ }
     ensures { λ _.
         let id = now (id .entry) in
         let auxiliary = now (auxiliary .entry) in
         let seed = now (seed .entry) in
         let combined = now (combined .entry) in
-        ⌜ now (response .exit) ≡ responseFor n id key auxiliary seed node (at combined) (at combined (n + m)) ⌝ }
+        let tag : ℕ → ℕ = λ s. at combined (n + m + s) in
+        ⌜ now (response .exit) ≡ responseFor n tags id key auxiliary seed node (at combined) tag ⌝ }
 {
     response[0] = message::head_byte(node);
     lists::store(combined, 0, response, 1, n - 2);
     mask::add_mask(key, id, seed, n, response, 1);
     lists::store(seed, 0, response, n - 1, sizes::SEED_LENGTH);
-    response[n + sizes::SUM_PAST_N] = mask::mask_sum(key, seed, n, auxiliary);
-    lists::store(combined, n - 2, response, n + sizes::CLEAR_PAST_N, 2);
-    response[n + sizes::TAG_PAST_N] = combined[n + m];
+    write_sums(key, seed, n, tags, auxiliary, response);
+    lists::store(
+        combined,
+        n - 2,
+        response,
+        n + tags + sizes::CLEAR_PAST_SUMS,
+        2,
+    );
+    lists::store(
+        combined,
+        n + m,
+        response,
+        n + tags + sizes::TAG_PAST_SUMS,
+        tags,
+    );
 }
 
 // The combined record of the named places under the mask of the seed.
@@ -172,6 +208,7 @@ fn write_response(
         node,
         z.n,
         z.m,
+        z.tags,
         &combined,
         key,
         &id,

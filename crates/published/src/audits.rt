@@ -1,7 +1,8 @@
-// Challenge and Verdict: the life in numbers, and calls with any lengths and numbers.
+// Challenge and Verdict: the lives in numbers, and calls with any lengths and numbers.
 use cases::CHALLENGE;
 use cases::ID;
 use cases::RESPONSE;
+use cases::RESPONSE_OF_THREE;
 use cases::counting_key;
 
 // The rows that the table has for node 2.
@@ -75,10 +76,8 @@ fn challenge_refused() {
     challenge(b"Challenge, output of 0 bytes", 2, 2, 1, 0, 1, 1, 0);
 }
 
-// Verdict with the life's key, id and sizes n=3, m=2, M=2, N=3, on its response with byte `at` made b.
-fn judged(label: &[u8], expected: u64, rows: &[u8], at: usize, b: u8) {
-    let mut response = RESPONSE;
-    response[at % 17] = b;
+// Verdict with the lives' key, id and sizes n=3, m=2, M=2, N=3.
+fn judge(label: &[u8], expected: u64, rows: &[u8], tags: usize, response: &[u8]) {
     let judgement = audit::verdict(
         &counting_key(0),
         &ID,
@@ -86,11 +85,19 @@ fn judged(label: &[u8], expected: u64, rows: &[u8], at: usize, b: u8) {
         2,
         2,
         3,
+        tags,
         rows,
         &CHALLENGE,
-        &response,
+        response,
     );
     cases::number(label, expected, audit::number(judgement) as u64);
+}
+
+// On the response of the first life with byte `at` made b.
+fn judged(label: &[u8], expected: u64, rows: &[u8], at: usize, b: u8) {
+    let mut response = RESPONSE;
+    response[at % 17] = b;
+    judge(label, expected, rows, 1, &response);
 }
 
 fn verdicts() {
@@ -109,8 +116,39 @@ fn verdicts() {
     judged(b"Verdict, response of node 1", 9, &ROWS, 0, 0x22);
 }
 
+fn judged_of_three(label: &[u8], expected: u64, response: &[u8]) {
+    judge(label, expected, &ROWS, 3, response);
+}
+
+// A masked byte changes by 01, so each equation by the first element of its key vector: 04, 2d, 12. All of them have to hold.
+fn verdicts_of_three() {
+    let mut response = RESPONSE_OF_THREE;
+    judged_of_three(b"Verdict, L=3: accepted", 0, &response);
+    response[1] = 0x2a ^ 0x01;
+    judged_of_three(b"Verdict, L=3, a masked byte changed", 255, &response);
+    response[13] = 0x63 ^ 0x04;
+    judged_of_three(b"Verdict, L=3, mask sum 0 with it", 255, &response);
+    response[14] = 0xce ^ 0x2d;
+    judged_of_three(b"Verdict, L=3, mask sums 0 and 1 with it", 255, &response);
+    response[15] = 0x2b ^ 0x12;
+    judged_of_three(b"Verdict, L=3, all mask sums with it", 0, &response);
+    response[13] = 0x63;
+    judged_of_three(b"Verdict, L=3, mask sums 1 and 2 with it", 255, &response);
+    judged_of_three(b"Verdict, L=3, response one short", 2, &response[0..20]);
+    judged_of_three(b"Verdict, L=3, response one long", 2, &[0x24u8; 22]);
+    judged_of_three(b"Verdict, L=3, response of one tag", 2, &RESPONSE);
+}
+
 // Sizes that are refused, or that the challenged node is not among.
-fn sized(label: &[u8], expected: u64, n: usize, m: usize, places: usize, nodes: usize) {
+fn sized(
+    label: &[u8],
+    expected: u64,
+    n: usize,
+    m: usize,
+    places: usize,
+    nodes: usize,
+    tags: usize,
+) {
     let judgement = audit::verdict(
         &counting_key(0),
         &ID,
@@ -118,6 +156,7 @@ fn sized(label: &[u8], expected: u64, n: usize, m: usize, places: usize, nodes: 
         m,
         places,
         nodes,
+        tags,
         &ROWS,
         &CHALLENGE,
         &RESPONSE,
@@ -126,16 +165,30 @@ fn sized(label: &[u8], expected: u64, n: usize, m: usize, places: usize, nodes: 
 }
 
 fn sizes() {
-    sized(b"Verdict, n=2", 1, 2, 2, 2, 3);
-    sized(b"Verdict, m=17", 1, 3, 17, 2, 3);
-    sized(b"Verdict, M=2^63", 1, 3, 2, 9223372036854775808, 3);
-    sized(b"Verdict, N=0", 1, 3, 2, 2, 0);
-    sized(b"Verdict, N=2", 4, 3, 2, 2, 2);
-    sized(b"Verdict, n=4", 2, 4, 2, 2, 3);
+    sized(b"Verdict, n=2", 1, 2, 2, 2, 3, 1);
+    sized(b"Verdict, m=17", 1, 3, 17, 2, 3, 1);
+    sized(b"Verdict, M=2^63", 1, 3, 2, 9223372036854775808, 3, 1);
+    sized(b"Verdict, N=0", 1, 3, 2, 2, 0, 1);
+    sized(b"Verdict, L=0", 1, 3, 2, 2, 3, 0);
+    sized(b"Verdict, L=11", 1, 3, 2, 2, 3, 11);
+    sized(b"Verdict, L=2^63", 1, 3, 2, 2, 3, 9223372036854775808);
+    sized(b"Verdict, N=2", 4, 3, 2, 2, 2, 1);
+    sized(b"Verdict, n=4", 2, 4, 2, 2, 3, 1);
 }
 
 fn asked(label: &[u8], expected: u64, message: &[u8]) {
-    let judgement = audit::verdict(&counting_key(0), &ID, 3, 2, 2, 3, &ROWS, message, &RESPONSE);
+    let judgement = audit::verdict(
+        &counting_key(0),
+        &ID,
+        3,
+        2,
+        2,
+        3,
+        1,
+        &ROWS,
+        message,
+        &RESPONSE,
+    );
     cases::number(label, expected, audit::number(judgement) as u64);
 }
 
@@ -175,6 +228,7 @@ pub fn run() {
     challenge_of_one();
     challenge_refused();
     verdicts();
+    verdicts_of_three();
     sizes();
     messages();
 }

@@ -1,4 +1,4 @@
--- Every length and offset, once. Lengths count bytes; n, m, places and nodes are those of `Sizes`.
+-- Every length and offset, once. Lengths count bytes; n, m, places, nodes and tags are those of `Sizes`; s is the number of a tag, from 0.
 use Prim.Native.Nat.{ℕ, _+_, _-_, _*_}
 use Rattle.sizes.specs.declared.Sizes.{Sizes}
 
@@ -57,23 +57,30 @@ placesMost = 8
 abbrev pub nodesMost : ℕ
 nodesMost = 6
 
+abbrev pub tagsMost : ℕ
+tagsMost = 10
+
 abbrev pub recordMost : ℕ
-recordMost = nMost + mMost + 1
+recordMost = nMost + mMost + tagsMost
 
 abbrev pub vectorMost : ℕ
 vectorMost = 17 * streamBlockLength
+
+-- the first nMost elements of the key vectors of all tags
+abbrev pub vectorsMost : ℕ
+vectorsMost = tagsMost * nMost
 
 -- ---- places and records
 
 abbrev pub placeCount : (z : Sizes) → ℕ
 placeCount z = z .nodes * z .places
 
--- a block is n data elements and a row of m; a record is a block and its tag
+-- a block is n data elements and a row of m; a record is a block and its tags
 abbrev pub blockLength : (z : Sizes) → ℕ
 blockLength z = z .n + z .m
 
 abbrev pub recordLength : (z : Sizes) → ℕ
-recordLength z = blockLength z + 1
+recordLength z = blockLength z + z .tags
 
 abbrev pub archiveLength : (z : Sizes) → ℕ
 archiveLength z = headerLength + placeCount z * recordLength z
@@ -93,22 +100,23 @@ fileLength z = z .m * (z .n - 2)
 abbrev pub paddingLength : (z : Sizes) → ℕ
 paddingLength z = 2 * z .m
 
-abbrev pub auxiliaryLength : (n : ℕ) → ℕ
-auxiliaryLength n = n - 1
+-- n - 1 for each tag
+abbrev pub auxiliaryLength : (n tags : ℕ) → ℕ
+auxiliaryLength n tags = tags * (n - 1)
 
--- ---- a response: head, n - 2 masked bytes, seed, mask sum, two elements in clear, tag
+-- ---- a response: head, n - 2 masked bytes, seed, mask sums, two elements in clear, tags
 
-abbrev pub responseLength : (n : ℕ) → ℕ
-responseLength n = n + 14
+abbrev pub responseLength : (n tags : ℕ) → ℕ
+responseLength n tags = n + 12 + 2 * tags
 
 abbrev pub seedStart : (n : ℕ) → ℕ
 seedStart n = n - 1
 
-abbrev pub sumAt : (n : ℕ) → ℕ
-sumAt n = n + 10
+abbrev pub sumAt : (n s : ℕ) → ℕ
+sumAt n s = n + 10 + s
 
-abbrev pub clearStart : (n : ℕ) → ℕ
-clearStart n = n + 11
+abbrev pub clearStart : (n tags : ℕ) → ℕ
+clearStart n tags = n + 10 + tags
 
-abbrev pub tagAt : (n : ℕ) → ℕ
-tagAt n = n + 13
+abbrev pub tagAt : (n tags s : ℕ) → ℕ
+tagAt n tags s = n + 12 + tags + s

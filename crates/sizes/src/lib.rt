@@ -2,8 +2,9 @@
 ghost use mathlib.Core.Path.{_≡_};
 ghost use mathlib.Core.Bool.{false};
 ghost use Prim.Native.Nat.{_<_, _≤_};
-ghost use Rattle.sizes.specs.Sizes.{nOutside, mOutside, sizesOutside};
+ghost use Rattle.sizes.specs.Sizes.{nOutside, mOutside, tagsOutside, tagOutside, sizesOutside};
 ghost use Rattle.sizes.specs.Lengths.{recordLength, archiveLength, recordStart, markCount, recordMost};
+ghost use Rattle.sizes.specs.Lengths.{auxiliaryLength, responseLength};
 
 // The lengths and offsets of specs/Lengths.antt that no size changes, under the same names.
 pub const KEY_LENGTH: usize = 32;
@@ -26,14 +27,12 @@ pub const FIRST_MARK: usize = 96;
 
 pub const MARK_COUNT: usize = 48;
 
-// How far past n the parts of a response stand, and its length.
+// How far past n the mask sums of a response stand; past n and the number of tags, the elements in clear and the tags.
 pub const SUM_PAST_N: usize = 10;
 
-pub const CLEAR_PAST_N: usize = 11;
+pub const CLEAR_PAST_SUMS: usize = 10;
 
-pub const TAG_PAST_N: usize = 13;
-
-pub const RESPONSE_PAST_N: usize = 14;
+pub const TAG_PAST_SUMS: usize = 12;
 
 // The ranges of the sizes, from 1 but for n.
 pub const N_LEAST: usize = 3;
@@ -46,17 +45,23 @@ pub const PLACES_MOST: usize = 8;
 
 pub const NODES_MOST: usize = 6;
 
+pub const TAGS_MOST: usize = 10;
+
 // The longest record, and the longest key vector in whole keystream blocks.
-pub const RECORD_MOST: usize = N_MOST + M_MOST + 1;
+pub const RECORD_MOST: usize = N_MOST + M_MOST + TAGS_MOST;
 
 pub const VECTOR_MOST: usize = 17 * STREAM_BLOCK_LENGTH;
 
-// n, m, the places of a node and the nodes. The scheme: n, m, M (places a box), N (boxes).
+// The first N_MOST elements of the key vectors of all tags.
+pub const VECTORS_MOST: usize = TAGS_MOST * N_MOST;
+
+// n, m, the places of a node, the nodes and the tags. The scheme: n, m, M (places a box), N (boxes), L.
 pub struct Sizes {
     pub n: usize,
     pub m: usize,
     pub places: usize,
     pub nodes: usize,
+    pub tags: usize,
 }
 
 // Whether n is outside its range.
@@ -73,6 +78,20 @@ pub fn m_outside(m: usize) -> bool
     answer::outside(1, M_MOST, m)
 }
 
+// Whether a number of tags is outside its range.
+pub fn tags_outside(tags: usize) -> bool
+    ensures { λ r. ⌜ r ≡ tagsOutside tags ⌝ }
+{
+    answer::outside(1, TAGS_MOST, tags)
+}
+
+// Whether no tag can have the number s.
+pub fn tag_outside(s: usize) -> bool
+    ensures { λ r. ⌜ r ≡ tagOutside s ⌝ }
+{
+    TAGS_MOST <= s
+}
+
 // Whether a size is outside its range.
 pub fn sizes_outside(z: Sizes) -> bool
     ensures { λ r. ⌜ r ≡ sizesOutside z ⌝ }
@@ -81,14 +100,15 @@ pub fn sizes_outside(z: Sizes) -> bool
         | m_outside(z.m)
         | answer::outside(1, PLACES_MOST, z.places)
         | answer::outside(1, NODES_MOST, z.nodes)
+        | tags_outside(z.tags)
 }
 
-// The bytes of a record: block, then tag.
+// The bytes of a record: block, then tags.
 pub fn record_length(z: Sizes) -> usize
     requires { ⌜ sizesOutside z ≡ false ⌝ }
     ensures { λ r. ⌜ (r ≡ recordLength z) × (r ≤ recordMost) ⌝ }
 {
-    z.n + z.m + 1
+    z.n + z.m + z.tags
 }
 
 // The bytes of an archive.
@@ -105,4 +125,20 @@ pub fn record_start(z: Sizes, k: usize) -> usize
     ensures { λ r. ⌜ r ≡ recordStart z k ⌝ }
 {
     HEADER_LENGTH + k * record_length(z)
+}
+
+// The auxiliary elements of so many tags.
+pub fn auxiliary_length(n: usize, tags: usize) -> usize
+    requires { ⌜ (nOutside n ≡ false) × (tagsOutside tags ≡ false) ⌝ }
+    ensures { λ r. ⌜ r ≡ auxiliaryLength n tags ⌝ }
+{
+    tags * (n - 1)
+}
+
+// The bytes of a response.
+pub fn response_length(n: usize, tags: usize) -> usize
+    requires { ⌜ (nOutside n ≡ false) × (tagsOutside tags ≡ false) ⌝ }
+    ensures { λ r. ⌜ r ≡ responseLength n tags ⌝ }
+{
+    n + 12 + 2 * tags
 }

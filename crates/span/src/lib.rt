@@ -20,6 +20,7 @@ ghost use Rattle.answer.specs.declared.Counted.{Counted};
 ghost use Rattle.answer.specs.Counted.{countedNumber, countedValue, CountedAnswer};
 ghost use Rattle.archive.specs.Inventory.{InventoryAllows};
 ghost use Rattle.archive.specs.Read.{ReadAllows};
+ghost use Rattle.sizes.specs.declared.Sizes.{Sizes};
 use answer::Counted;
 use field::Inverted;
 
@@ -61,15 +62,25 @@ pub extern "C" fn span_block(key: &[u8], counter: u32, nonce: &[u8], out: &mut [
 }
 
 #[no_mangle]
-pub extern "C" fn span_vector(key: &[u8], id: &[u8], n: usize, m: usize, out: &mut [u8]) -> u8
+pub extern "C" fn span_vector(
+    tag_key: &[u8],
+    id: &[u8],
+    n: usize,
+    m: usize,
+    s: usize,
+    out: &mut [u8],
+) -> u8
     ensures number { λ r.
-        let key = now (key .entry) in
+        let tagKey = now («tag_key» .entry) in
         let id = now (id .entry) in
         let out = now (out .entry) in
-        ⌜ r ≡ outcomeNumber (vectorAnswer key id n m out) ⌝ }
-    ensures output { λ _. ⌜ now (out .exit) ≡ vectorOut (now (key .entry)) (now (id .entry)) n m (now (out .entry)) ⌝ }
+        ⌜ r ≡ outcomeNumber (vectorAnswer tagKey id n m s out) ⌝ }
+    ensures output { λ _.
+        let tagKey = now («tag_key» .entry) in
+        let id = now (id .entry) in
+        ⌜ now (out .exit) ≡ vectorOut tagKey id n m s (now (out .entry)) ⌝ }
 {
-    answer::number(tag::vector(key, id, n, m, out))
+    answer::number(tag::vector(tag_key, id, n, m, s, out))
 }
 
 #[no_mangle]
@@ -78,6 +89,7 @@ pub extern "C" fn span_setup(
     mask_key: &[u8],
     id: &[u8],
     n: usize,
+    tags: usize,
     auxiliary: &mut [u8],
 ) -> u8
     ensures number { λ r.
@@ -85,19 +97,20 @@ pub extern "C" fn span_setup(
         let maskKey = now («mask_key» .entry) in
         let id = now (id .entry) in
         let auxiliary = now (auxiliary .entry) in
-        ⌜ r ≡ outcomeNumber (setupAnswer tagKey maskKey id n auxiliary) ⌝ }
+        ⌜ r ≡ outcomeNumber (setupAnswer tagKey maskKey id n tags auxiliary) ⌝ }
     ensures output { λ _.
         let tagKey = now («tag_key» .entry) in
         let maskKey = now («mask_key» .entry) in
         let id = now (id .entry) in
-        ⌜ now (auxiliary .exit) ≡ setupOut tagKey maskKey id n (now (auxiliary .entry)) ⌝ }
+        ⌜ now (auxiliary .exit) ≡ setupOut tagKey maskKey id n tags (now (auxiliary .entry)) ⌝ }
 {
-    answer::number(mask::setup(tag_key, mask_key, id, n, auxiliary))
+    answer::number(mask::setup(tag_key, mask_key, id, n, tags, auxiliary))
 }
 
 #[no_mangle]
 pub extern "C" fn span_unmask(
     n: usize,
+    tags: usize,
     id: &[u8],
     mask_key: &[u8],
     response: &[u8],
@@ -108,14 +121,14 @@ pub extern "C" fn span_unmask(
         let maskKey = now («mask_key» .entry) in
         let response = now (response .entry) in
         let out = now (out .entry) in
-        ⌜ r ≡ outcomeNumber (unmaskAnswer n id maskKey response out) ⌝ }
+        ⌜ r ≡ outcomeNumber (unmaskAnswer n tags id maskKey response out) ⌝ }
     ensures output { λ _.
         let id = now (id .entry) in
         let maskKey = now («mask_key» .entry) in
         let response = now (response .entry) in
-        ⌜ now (out .exit) ≡ unmaskOut n id maskKey response (now (out .entry)) ⌝ }
+        ⌜ now (out .exit) ≡ unmaskOut n tags id maskKey response (now (out .entry)) ⌝ }
 {
-    answer::number(message::unmask(n, id, mask_key, response, out))
+    answer::number(message::unmask(n, tags, id, mask_key, response, out))
 }
 
 #[no_mangle]
@@ -140,47 +153,62 @@ pub extern "C" fn span_challenge(
 
 #[no_mangle]
 pub extern "C" fn span_verdict(
-    key: &[u8],
+    tag_key: &[u8],
     id: &[u8],
     n: usize,
     m: usize,
     places: usize,
     nodes: usize,
+    tags: usize,
     rows: &[u8],
     message: &[u8],
     response: &[u8],
 ) -> u8
     ensures { λ r.
-        let key = now (key .entry) in
+        let tagKey = now («tag_key» .entry) in
         let id = now (id .entry) in
+        let z : Sizes = record { n = n; m = m; places = places; nodes = nodes; tags = tags } in
         let rows = now (rows .entry) in
         let message = now (message .entry) in
         let response = now (response .entry) in
-        ⌜ r
-        ≡ judgementNumber (verdictOf key id (record { n = n; m = m; places = places; nodes = nodes }) rows message response) ⌝ }
+        ⌜ r ≡ judgementNumber (verdictOf tagKey id z rows message response) ⌝ }
 {
-    audit::number(audit::verdict(key, id, n, m, places, nodes, rows, message, response))
+    audit::number(audit::verdict(
+        tag_key,
+        id,
+        n,
+        m,
+        places,
+        nodes,
+        tags,
+        rows,
+        message,
+        response,
+    ))
 }
 
 #[no_mangle]
 pub extern "C" fn span_open(
+    layout: usize,
     n: usize,
     m: usize,
     places: usize,
     nodes: usize,
+    tags: usize,
     id: &[u8],
     archive: &mut [u8],
 ) -> u8
     ensures number { λ r.
+        let z : Sizes = record { n = n; m = m; places = places; nodes = nodes; tags = tags } in
         let id = now (id .entry) in
         let archive = now (archive .entry) in
-        ⌜ r ≡ outcomeNumber (openAnswer (record { n = n; m = m; places = places; nodes = nodes }) id archive) ⌝ }
+        ⌜ r ≡ outcomeNumber (openAnswer layout z id archive) ⌝ }
     ensures output { λ _.
+        let z : Sizes = record { n = n; m = m; places = places; nodes = nodes; tags = tags } in
         let id = now (id .entry) in
-        ⌜ now (archive .exit)
-        ≡ openOut (record { n = n; m = m; places = places; nodes = nodes }) id (now (archive .entry)) ⌝ }
+        ⌜ now (archive .exit) ≡ openOut layout z id (now (archive .entry)) ⌝ }
 {
-    answer::number(archive::open(n, m, places, nodes, id, archive))
+    answer::number(archive::open(layout, n, m, places, nodes, tags, id, archive))
 }
 
 #[no_mangle]

@@ -13,14 +13,14 @@ use Rattle.tag.specs.KeyVector.{F1, keyVector}
 use Rattle.tag.specs.PrivateKeyStream.{GivesKeyVector}
 
 -- F1's byte i is element i
-key-byte : (key id : List ℕ) (i : ℕ) → byteAt key (1 ∷ 0 ∷ 0 ∷ 0 ∷ id) i ≡ keyVector key id i
+key-byte : (key id : List ℕ) (s i : ℕ) → byteAt key (1 ∷ s ∷ 0 ∷ 0 ∷ id) i ≡ keyVector key id s i
 unfolding keyVector F1
-key-byte key id i = let q : i + 1 - 1 ≡ i = omega arith in rw q refl
+key-byte key id s i = let q : i + 1 - 1 ≡ i = omega arith in rw q refl
 
-module _ (key id : List ℕ) {k nonce : List ℕ} (keys : k ≡ key) (ids : nonce ≡ 1 ∷ 0 ∷ 0 ∷ 0 ∷ id) where
-  pub key-streamed : {s : Stream} → s ≡ fresh k nonce → GivesKeyVector key id s
-  key-streamed e i = rw (e, keys, ids) (draws-in-order key (1 ∷ 0 ∷ 0 ∷ 0 ∷ id) i ∙ key-byte key id i)
+module _ (key id : List ℕ) (s : ℕ) {k nonce : List ℕ} (keys : k ≡ key) (ids : nonce ≡ 1 ∷ s ∷ 0 ∷ 0 ∷ id) where
+  pub key-streamed : {stream : Stream} → stream ≡ fresh k nonce → GivesKeyVector key id s stream
+  key-streamed e i = rw (e, keys, ids) (draws-in-order key (1 ∷ s ∷ 0 ∷ 0 ∷ id) i ∙ key-byte key id s i)
 
   pub key-filled : (count : ℕ) (before : List ℕ) {w : List ℕ} → w ≡ put (64 * count) 0 (byteAt k nonce) before
-      → w ≡ put (64 * count) 0 (keyVector key id) before
-  key-filled count before e = e ∙ rw (keys, ids) (put-same (64 * count) 0 _ _ before (λ i h. key-byte key id i))
+      → w ≡ put (64 * count) 0 (keyVector key id s) before
+  key-filled count before e = e ∙ rw (keys, ids) (put-same (64 * count) 0 _ _ before (λ i h. key-byte key id s i))

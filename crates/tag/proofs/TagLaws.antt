@@ -1,5 +1,5 @@
--- The tag of a combination is the combination of the tags. Assumes nothing.
-use Prim.Native.Nat.{ℕ}
+-- The tags of a combination are the combinations of the tags. Assumes nothing.
+use Prim.Native.Nat.{ℕ, _-_}
 use mathlib.Core.Path.{_≡_, refl}
 use mathlib.Core.Bool.{Bool, true, false}
 use lib.Dec.{ltb}
@@ -7,14 +7,14 @@ use Rattle.lists.specs.Lists.{pick}
 use Rattle.field.specs.Field.{sum, times}
 use Rattle.vector.specs.Vectors.{product, mixed}
 use Rattle.vector.proofs.VectorLaws.{product-mixed}
-use Rattle.tag.specs.KeyVector.{withTag}
+use Rattle.tag.specs.KeyVector.{withTags}
 
-pub tags-combine : (len count : ℕ) (r : ℕ → ℕ) (v : ℕ → ℕ → ℕ) (k : ℕ → ℕ) (p : ℕ)
-    → withTag len k (mixed count r v) p ≡ mixed count r (λ i. withTag len k (v i)) p
-unfolding withTag mixed
+pub tags-combine : (len count : ℕ) (r : ℕ → ℕ) (v k : ℕ → ℕ → ℕ) (p : ℕ)
+    → withTags len k (mixed count r v) p ≡ mixed count r (λ i. withTags len k (v i)) p
+unfolding withTags mixed
 tags-combine len count r v k p = go (ltb p len)
   where
-    go : (t : Bool) → pick t (sum count (λ i. times (r i) (v i p))) (product len (mixed count r v) k)
-        ≡ sum count (λ i. times (r i) (pick t (v i p) (product len (v i) k)))
+    go : (t : Bool) → pick t (sum count (λ i. times (r i) (v i p))) (product len (mixed count r v) (k (p - len)))
+        ≡ sum count (λ i. times (r i) (pick t (v i p) (product len (v i) (k (p - len)))))
     go true = refl
-    go false = product-mixed len count r v k
+    go false = product-mixed len count r v (k (p - len))

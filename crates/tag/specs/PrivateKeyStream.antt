@@ -6,6 +6,6 @@ use Rattle.keystream.specs.declared.stream.Stream.{Stream}
 use Rattle.keystream.specs.PrivateStream.{drawn, after}
 use Rattle.tag.specs.KeyVector.{keyVector}
 
--- the draws from this stream are the key vector, element by element
-abbrev pub GivesKeyVector : (tagKey id : List ℕ) (s : Stream) → Type 0
-GivesKeyVector tagKey id s = (i : ℕ) → drawn (after i s) .byte ≡ keyVector tagKey id i
+-- the draws from this stream are the key vector of tag k, element by element
+abbrev pub GivesKeyVector : (tagKey id : List ℕ) (k : ℕ) (s : Stream) → Type 0
+GivesKeyVector tagKey id k s = (i : ℕ) → drawn (after i s) .byte ≡ keyVector tagKey id k i

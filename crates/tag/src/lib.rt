@@ -1,10 +1,10 @@
-// Key vectors and tags (NC-Audit): F1, and the tag of a block.
+// Key vectors and tags (NC-Audit): F1, and the tags of a block.
 ghost use mathlib.Core.Path.{_≡_};
 ghost use mathlib.Core.List.{_∷_};
-ghost use Prim.Native.Nat.{_+_, _*_, _≤_};
+ghost use Prim.Native.Nat.{_+_, _*_, _<_, _≤_};
 ghost use lib.ListN.{length};
 ghost use Rattle.lists.specs.Lists.{at, tab, put};
-ghost use Rattle.sizes.specs.Lengths.{keyLength, idLength, streamBlockLength};
+ghost use Rattle.sizes.specs.Lengths.{keyLength, idLength, streamBlockLength, tagsMost};
 ghost use Rattle.field.specs.PrivateTables.{FieldTables};
 ghost use Rattle.keystream.specs.PrivateStream.{drawn, after};
 ghost use Rattle.vector.specs.Vectors.{product};
@@ -51,25 +51,34 @@ pub fn id_nonce(a: u8, b: u8, c: u8, d: u8, id: &[u8]) -> Nonce
     ]
 }
 
-// The stream whose bytes are the key vector of a tag key and an id: the one door to F1, drawn byte by byte.
-pub fn key_stream(tag_key: &[u8], id: &[u8]) -> Stream
-    requires { ⌜ (length (now «tag_key») ≡ keyLength) × (length (now id) ≡ idLength) ⌝ }
-    ensures { λ s. ⌜ GivesKeyVector (now («tag_key» .entry)) (now (id .entry)) s ⌝ }
+// The nonce of F1 for tag s.
+fn tag_nonce(s: usize, id: &[u8]) -> Nonce
+    requires { ⌜ (s < tagsMost) × (length (now id) ≡ idLength) ⌝ }
+    ensures { λ r. ⌜ r ≡ 1 ∷ s ∷ 0 ∷ 0 ∷ now (id .entry) ⌝ }
 {
-    Stream::new(key_array(tag_key), id_nonce(1, 0, 0, 0, id))
+    id_nonce(1, s as u8, 0, 0, id)
+}
+
+// The stream whose bytes are the key vector of tag s, for a tag key and an id: the one door to F1, drawn byte by byte.
+pub fn key_stream(tag_key: &[u8], id: &[u8], s: usize) -> Stream
+    requires { ⌜ (length (now «tag_key») ≡ keyLength) × (length (now id) ≡ idLength) × (s < tagsMost) ⌝ }
+    ensures { λ r. ⌜ GivesKeyVector (now («tag_key» .entry)) (now (id .entry)) s r ⌝ }
+{
+    Stream::new(key_array(tag_key), tag_nonce(s, id))
 }
 
 // The first 64 times `count` elements of that vector at the front of out: the same door, block by block.
-pub fn key_vector_into(tag_key: &[u8], id: &[u8], out: &mut [u8], count: usize)
+pub fn key_vector_into(tag_key: &[u8], id: &[u8], s: usize, out: &mut [u8], count: usize)
     requires { ⌜ (length (now «tag_key») ≡ keyLength)
         × (length (now id) ≡ idLength)
+        × (s < tagsMost)
         × (streamBlockLength * count ≤ length (now out)) ⌝ }
     ensures { λ _.
         let tagKey = now («tag_key» .entry) in
         let id = now (id .entry) in
-        ⌜ now (out .exit) ≡ put (streamBlockLength * count) 0 (keyVector tagKey id) (now (out .entry)) ⌝ }
+        ⌜ now (out .exit) ≡ put (streamBlockLength * count) 0 (keyVector tagKey id s) (now (out .entry)) ⌝ }
 {
-    keystream::fill(key_array(tag_key), id_nonce(1, 0, 0, 0, id), out, count);
+    keystream::fill(key_array(tag_key), tag_nonce(s, id), out, count);
 }
 
 // The product of len bytes, from `first` on, and as many bytes of a stream.
@@ -102,10 +111,10 @@ pub fn draw_into(s: Stream, out: &mut [u8])
 }
 
 // The first refusal of Vector.
-fn vector_check(tag_key: &[u8], id: &[u8], n: usize, m: usize, out: &[u8]) -> Outcome
-    ensures { λ r. ⌜ r ≡ vectorAnswer (now («tag_key» .entry)) (now (id .entry)) n m (now (out .entry)) ⌝ }
+fn vector_check(tag_key: &[u8], id: &[u8], n: usize, m: usize, s: usize, out: &[u8]) -> Outcome
+    ensures { λ r. ⌜ r ≡ vectorAnswer (now («tag_key» .entry)) (now (id .entry)) n m s (now (out .entry)) ⌝ }
 {
-    if sizes::n_outside(n) | sizes::m_outside(m) {
+    if sizes::n_outside(n) | sizes::m_outside(m) | sizes::tag_outside(s) {
         return Outcome::Refused(Refusal::Size);
     }
     if (tag_key.len() != sizes::KEY_LENGTH)
@@ -117,17 +126,17 @@ fn vector_check(tag_key: &[u8], id: &[u8], n: usize, m: usize, out: &[u8]) -> Ou
     Outcome::Done
 }
 
-// The key vector of n + m elements.
-pub fn vector(tag_key: &[u8], id: &[u8], n: usize, m: usize, out: &mut [u8]) -> Outcome
-    ensures answer { λ r. ⌜ r ≡ vectorAnswer (now («tag_key» .entry)) (now (id .entry)) n m (now (out .entry)) ⌝ }
+// The key vector of tag s: n + m elements.
+pub fn vector(tag_key: &[u8], id: &[u8], n: usize, m: usize, s: usize, out: &mut [u8]) -> Outcome
+    ensures answer { λ r. ⌜ r ≡ vectorAnswer (now («tag_key» .entry)) (now (id .entry)) n m s (now (out .entry)) ⌝ }
     ensures output { λ _.
         let tagKey = now («tag_key» .entry) in
         let id = now (id .entry) in
-        ⌜ now (out .exit) ≡ vectorOut tagKey id n m (now (out .entry)) ⌝ }
+        ⌜ now (out .exit) ≡ vectorOut tagKey id n m s (now (out .entry)) ⌝ }
 {
-    let answer = vector_check(tag_key, id, n, m, out);
+    let answer = vector_check(tag_key, id, n, m, s, out);
     if let Outcome::Done = answer {
-        draw_into(key_stream(tag_key, id), out);
+        draw_into(key_stream(tag_key, id, s), out);
     }
     answer
 }

@@ -13,11 +13,11 @@ use Rattle.mask.proofs.any_element.Statement.{statement}
 use Rattle.mask.proofs.any_element.Tie as tie
 
 abbrev Inv-loop : tie.InvT-loop
-Inv-loop tag-key id len s₀ counter₀ s counter =
-    (counter ≤ len) × (s ≡ after counter s₀) × GivesKeyVector tag-key id s₀ × ((e : ℕ) → e < counter → keyVector tag-key id e ≡ 0)
+Inv-loop tag-key id s len vector₀ counter₀ vector counter =
+    (counter ≤ len) × (vector ≡ after counter vector₀) × GivesKeyVector tag-key id s vector₀ × ((e : ℕ) → e < counter → keyVector tag-key id s e ≡ 0)
 
 abbrev μ-loop : tie.MeasureT-loop
-μ-loop tag-key id len s₀ counter₀ s counter = len - counter
+μ-loop tag-key id s len vector₀ counter₀ vector counter = len - counter
 
 loop-holds : tie.Need-loop-holds Inv-loop μ-loop
 loop-holds c = (omega arith, after-none _, c .key-stream .ensures, λ e l. absurd (omega arith))

@@ -7,7 +7,7 @@ use Rattle.mask.proofs.setup.Tie as tie
 
 setup-into-requires : tie.Need-setup-into-requires
 setup-into-requires c κs =
-    setup-sizes _ _ _ _ _ (c .before .before .before .setup-check .ensures) (c .before .enum-told .given .1)
+    setup-sizes _ _ _ _ _ _ (c .before .before .before .setup-check .ensures) (c .before .enum-told .given .1)
 
 returns : tie.Need-returns
 unfolding setupOut

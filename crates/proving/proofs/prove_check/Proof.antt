@@ -1,6 +1,7 @@
 use borrow.Author.Needs.{needs}
 use mathlib.Core.Path.{sym, _∙_}
 use native.Mathlib.Omega.{arith}
+use Rattle.sizes.proofs.SizeLaws.{response-sizes, not-sizes-outside}
 use Rattle.answer.proofs.RefusalLaws.{refused, passed, listed}
 use Rattle.archive.specs.Prove.{proveFor, proveAnswer}
 use Rattle.archive.proofs.GoodArchiveLaws.{good-length}
@@ -21,11 +22,11 @@ sizes-in-requires c κs =
     let b = c .before .before in
     omega (arith, good-length _ (sym (b .before .bad-archive .ensures) ∙ b .if1 .left))
 
-sub-if3 : tie.Need-sub-if3
-sub-if3 c = omega (arith, read-sizes _ (c .before .sizes-in .ensures) (cc) .n-low)
+auxiliary-length-requires : tie.Need-auxiliary-length-requires
+auxiliary-length-requires c κs = response-sizes _ (not-sizes-outside _ (read-sizes _ (c .sizes-in .ensures) (cc)))
 
-add-if3 : tie.Need-add-if3
-add-if3 c = omega (arith, read-sizes _ (c .before .before .sizes-in .ensures) (cc) .n-high)
+response-length-requires : tie.Need-response-length-requires
+response-length-requires c κs = response-sizes _ (not-sizes-outside _ (read-sizes _ (c .before .sizes-in .ensures) (cc)))
 
 returns-3 : tie.Need-returns-3
 unfolding proveAnswer proveFor
@@ -36,7 +37,10 @@ not-there-requires c κs = cc
 
 returns-4 : tie.Need-returns-4
 unfolding proveAnswer proveFor
-returns-4 c = sym (passed _ _ (cc) ∙ passed _ _ (cc) ∙ passed _ _ (listed _ _ (cc)) ∙ refused _ _ (cc))
+returns-4 c =
+    sym (
+    passed _ _ (cc) ∙ passed _ _ (cc) ∙ passed _ _ (listed _ _ (cc))
+    ∙ refused _ _ (rw (← c .before .before .before .before .before .sizes-in .ensures) (sym (c .before .not-there .ensures) ∙ c .if4 .taken)))
 
 any-named-empty-requires : tie.Need-any-named-empty-requires
 any-named-empty-requires c κs = (cc, cc, rw (← c .before .before .before .before .before .sizes-in .ensures) (sym (c .before .not-there .ensures) ∙ c .if4 .left))
@@ -68,8 +72,8 @@ prove-check-spec =
     (λ c κs. search needs)
     returns-2
     sizes-in-requires
-    sub-if3
-    add-if3
+    auxiliary-length-requires
+    response-length-requires
     returns-3
     not-there-requires
     returns-4

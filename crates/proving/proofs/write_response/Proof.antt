@@ -46,16 +46,18 @@ write-parts-requires c κs =
     let b = z .before .before .before .before .before .before .before .before in
     let P = provable _ _ _ _ _ _ (b .pre) in
     let R = read-sizes _ (z .sizes-in .ensures) (P .good) in
-    let n : z .sizes-in .result .n ≡ _ = ap (λ (x : Sizes). x .n) (z .sizes-in .ensures) in (
+    let n : z .sizes-in .result .n ≡ _ = ap (λ (x : Sizes). x .n) (z .sizes-in .ensures) in
+    let tags : z .sizes-in .result .tags ≡ _ = ap (λ (x : Sizes). x .tags) (z .sizes-in .ensures) in (
       omega (arith, node .node-in .ensures .1),
       R .n-low,
       R .n-high,
       R .m-high,
+      R .tags-high,
       search needs,
       ap length (c .before .before .before .id-in .ensures) ∙ good-id _ (P .good),
-      rw n (P .elements-length),
+      rw (n, tags) (P .elements-length),
       P .seed-length,
-      rw n (P .response-length),
+      rw (n, tags) (P .response-length),
     )
 
 returns : tie.Need-returns

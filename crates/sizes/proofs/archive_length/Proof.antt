@@ -5,6 +5,7 @@ use native.Mathlib.Nat.{mul-le-mul}
 use native.Mathlib.Omega.{arith}
 use Rattle.sizes.proofs.SizeLaws.{ranged}
 use Rattle.sizes.proofs.PlaceLaws.{count-low}
+use Rattle.sizes.specs.Lengths.{markCount, recordMost}
 use Rattle.sizes.proofs.archive_length.Statement.{statement}
 use Rattle.sizes.proofs.archive_length.Tie as tie
 
@@ -12,10 +13,10 @@ mul-result : tie.Need-mul-result
 mul-result c = omega (arith, count-low _ (ranged _ (c .before .pre)))
 
 mul-result-2 : tie.Need-mul-result-2
-mul-result-2 c = omega (arith, mul-le-mul {n₂ = 48} {m₂ = 1041} (count-low _ (ranged _ (c .before .before .pre))) (c .record-length .ensures .1))
+mul-result-2 c = omega (arith, mul-le-mul {n₂ = markCount} {m₂ = recordMost} (count-low _ (ranged _ (c .before .before .pre))) (c .record-length .ensures .1))
 
 add-result : tie.Need-add-result
-add-result c = omega (arith, mul-le-mul {n₂ = 48} {m₂ = 1041} (count-low _ (ranged _ (c .before .before .pre))) (c .record-length .ensures .1))
+add-result c = omega (arith, mul-le-mul {n₂ = markCount} {m₂ = recordMost} (count-low _ (ranged _ (c .before .before .pre))) (c .record-length .ensures .1))
 
 returns : tie.Need-returns
 returns c =

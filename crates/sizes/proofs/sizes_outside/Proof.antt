@@ -10,10 +10,13 @@ returns : tie.Need-returns
 unfolding sizesOutside
 returns c =
     let b = c .before in
-    ap₂ _||_ (ap₂ _||_ (ap₂ _||_ (b .before .before .n-outside .ensures) (b .before .m-outside .ensures)) (b .outside .ensures)) (c .outside2 .ensures)
+    let a = b .before in
+    ap₂ _||_
+    (ap₂ _||_ (ap₂ _||_ (ap₂ _||_ (a .before .before .n-outside .ensures) (a .before .m-outside .ensures)) (a .outside .ensures)) (b .outside2 .ensures))
+    (c .tags-outside .ensures)
     ∙ any-of _ _
 
 pub sizes-outside-spec : {M : Type 1} → statement M
 sizes-outside-spec =
     tie.close
-    (tie.spec (λ c κs. search needs) (λ c κs. search needs) (λ c κs. search needs) (λ c κs. search needs) returns)
+    (tie.spec (λ c κs. search needs) (λ c κs. search needs) (λ c κs. search needs) (λ c κs. search needs) (λ c κs. search needs) returns)

@@ -7,7 +7,7 @@ returns : tie.Need-returns
 returns c =
     let f = c .before .before in
     let id = f .before .before in
-    key-filled _ _ (id .before .key-array .ensures) (id .id-nonce .ensures) _ _ (f .fill .ensures)
+    key-filled _ _ _ (id .before .key-array .ensures) (id .tag-nonce .ensures) _ _ (f .fill .ensures)
 
 pub key-vector-into-spec : {M : Type 1} → statement M
 key-vector-into-spec =

@@ -14,8 +14,9 @@ returns c = sym (refused _ _ (listed _ _ (cc)))
 
 add-if2 : tie.Need-add-if2
 add-if2 c =
-    let w = or-false _ _ (c .if1 .left) in
-    omega (arith, n-range _ (sym (c .before .before .n-outside .ensures) ∙ w .0), m-range _ (sym (c .before .m-outside .ensures) ∙ w .1))
+    let w = or-false _ _ (or-false _ _ (c .if1 .left) .0) in
+    let m = c .before .before in
+    omega (arith, n-range _ (sym (m .before .n-outside .ensures) ∙ w .0), m-range _ (sym (m .m-outside .ensures) ∙ w .1))
 
 returns-2 : tie.Need-returns-2
 unfolding vectorAnswer
@@ -27,4 +28,4 @@ returns-3 c = sym (passed _ _ (listed _ _ (cc)) ∙ passed _ _ (listed _ _ (cc))
 
 pub vector-check-spec : {M : Type 1} → statement M
 vector-check-spec =
-    tie.close (tie.spec (λ c κs. search needs) (λ c κs. search needs) returns add-if2 returns-2 returns-3)
+    tie.close (tie.spec (λ c κs. search needs) (λ c κs. search needs) (λ c κs. search needs) returns add-if2 returns-2 returns-3)

@@ -1,12 +1,12 @@
 use borrow.Author.Needs.{needs}
 use Rattle.answer.proofs.RefusalLaws.{written, kept}
-use Rattle.archive.proofs.OpenLaws.{open-tells}
+use Rattle.archive.proofs.OpenLaws.{open-lengths}
 use Rattle.archive.specs.Open.{openOut}
 use Rattle.archive.proofs.opening.open.Statement.{statement}
 use Rattle.archive.proofs.opening.open.Tie as tie
 
 write-new-requires : tie.Need-write-new-requires
-write-new-requires c κs = open-tells _ _ _ (c .before .before .before .open-check .ensures) (c .before .enum-told .given .1)
+write-new-requires c κs = open-lengths _ _ _ _ (c .before .before .before .open-check .ensures) (c .before .enum-told .given .1)
 
 returns : tie.Need-returns
 unfolding openOut

@@ -1,7 +1,7 @@
 use borrow.Author.Needs.{needs}
-use mathlib.Core.Path.{refl}
+use mathlib.Core.Path.{refl, ap, _∙_}
 use native.Mathlib.Omega.{arith}
-use lib.ListN.{length-set}
+use lib.ListN.{length}
 use Rattle.sizes.proofs.SizeLaws.{not-sizes-outside}
 use Rattle.coding.proofs.EncodeLaws.{encodable, place-filled}
 use Rattle.coding.proofs.encoding.fill_place.Statement.{statement}
@@ -37,83 +37,56 @@ id-in-requires c κs =
     let ok = encodable _ _ _ _ _ _ _ (z .sizes-in .ensures) (z .before .before .before .before .before .before .before .before .pre) in
     omega (arith, ok .fits)
 
-key-stream-requires : tie.Need-key-stream-requires
-key-stream-requires c κs =
-    let z = c .before .before .before .before .before .before in
-    let ok = encodable _ _ _ _ _ _ _ (z .sizes-in .ensures) (z .before .before .before .before .before .before .before .before .pre) in
-    (ok .key-length, search needs)
-
 set-marks-requires : tie.Need-set-marks-requires
 set-marks-requires c κs =
-    let z = c .before .before .before .before .before .before .before .before in
+    let z = c .before .before .before .before .before .before in
     let ok = encodable _ _ _ _ _ _ _ (z .sizes-in .ensures) (z .before .before .before .before .before .before .before .before .pre) in
     (omega (arith, ok .number), omega (arith, ok .fits))
 
 write-block-requires : tie.Need-write-block-requires
 write-block-requires c κs =
     let marks = c .before .before .before in
-    let start = marks .before .before .before .before .before .before .before .before in
+    let start = marks .before .before .before .before .before .before in
     let z = start .before .before in
     let ok = encodable _ _ _ _ _ _ _ (z .sizes-in .ensures) (z .before .before .before .before .before .before .before .before .pre) in
     let t = z .before .before .tables .ensures in
     (t, not-sizes-outside _ (ok .sizes), ok .file-length, ok .padding-length, omega (arith, ok .fits, start .record-start .ensures, marks .archive .given))
 
-add-product-drawn : tie.Need-add-product-drawn
-add-product-drawn c =
-    let z = c .before .before .before .before .before .before .before .before .before .before .before .before .before .before .before .before .before .before .before in
+add-write-tags : tie.Need-add-write-tags
+add-write-tags c =
+    let z = c .before .before .before .before .before .before .before .before .before .before .before .before .before .before .before .before .before .before in
     let ok = encodable _ _ _ _ _ _ _ (z .sizes-in .ensures) (z .before .before .before .before .before .before .before .before .pre) in
     omega (arith, ok .sizes)
 
-product-drawn-requires : tie.Need-product-drawn-requires
-product-drawn-requires c κs =
-    let block = c .before .before .before .before in
+write-tags-requires : tie.Need-write-tags-requires
+write-tags-requires c κs =
+    let block = c .before .before .before .before .before in
     let marks = block .before .before .before .before .before in
-    let start = marks .before .before .before .before .before .before .before .before in
+    let start = marks .before .before .before .before .before .before in
     let z = start .before .before in
     let ok = encodable _ _ _ _ _ _ _ (z .sizes-in .ensures) (z .before .before .before .before .before .before .before .before .pre) in
     let t = z .before .before .tables .ensures in
-    (t, omega (arith, ok .fits, start .record-start .ensures, marks .archive .given, block .archive2 .given))
-
-add-archive : tie.Need-add-archive
-add-archive c =
-    let start = c .before .before .before .before .before .before .before .before .before .before .before .before .before .before .before .before .before .before .before in
-    let z = start .before .before in
-    let s = z .before .before .before .before .before .before .before .before in
-    omega (arith, encodable _ _ _ _ _ _ _ (z .sizes-in .ensures) (s .pre) .fits, start .record-start .ensures)
-
-add-archive-2 : tie.Need-add-archive-2
-add-archive-2 c =
-    let start = c .before .before .before .before .before .before .before .before .before .before .before .before .before .before .before .before .before .before .before .before in
-    let z = start .before .before in
-    let s = z .before .before .before .before .before .before .before .before in
-    omega (arith, encodable _ _ _ _ _ _ _ (z .sizes-in .ensures) (s .pre) .fits, start .record-start .ensures)
-
-slice-write-archive : tie.Need-slice-write-archive
-slice-write-archive c =
-    let block = c .before .before .before .before .before .before .before in
-    let marks = block .before .before .before .before .before in
-    let start = marks .before .before .before .before .before .before .before .before in
-    let z = start .before .before in
-    let ok = encodable _ _ _ _ _ _ _ (z .sizes-in .ensures) (z .before .before .before .before .before .before .before .before .pre) in
-    omega (arith, ok .fits, start .record-start .ensures, marks .archive .given, block .archive2 .given)
+    let id = ap length (marks .before .before .before .id-in .ensures) ∙ ok .id-length in
+    (t, ok .key-length, id, ok .sizes .tags-high, omega (arith, ok .fits, start .record-start .ensures, marks .archive .given, block .archive2 .given))
 
 same-length : tie.Need-same-length
 same-length c =
-    let block = c .before .before .before .before .before .before .before in
-    simp length-set (omega (arith, block .before .before .before .before .before .archive .given, block .archive2 .given))
+    let tags = c .before in
+    let block = tags .before .before .before .before .before .before .before in
+    omega (arith, block .before .before .before .before .before .archive .given, block .archive2 .given, tags .archive3 .given)
 
 returns : tie.Need-returns
 returns c =
-    let block = c .before .before .before .before .before .before .before .before in
+    let tags = c .before .before in
+    let block = tags .before .before .before .before .before .before .before in
     let marks = block .before .before .before .before .before in
-    let stream = marks .before .before in
-    let id = stream .before .before in
+    let id = marks .before .before in
     let kept = id .before .before in
     let start = kept .before in
     let z = start .before .before in
     let ok = encodable _ _ _ _ _ _ _ (z .sizes-in .ensures) (z .before .before .before .before .before .before .before .before .pre) in
-    place-filled _ _ _ _ _ _ _ _ _ (z .sizes-in .ensures) ok (start .record-start .ensures) (id .id-in .ensures) (stream .key-stream .ensures)
-    (marks .set-marks .ensures) (kept .row-from .ensures) (block .write-block .ensures) (c .before .before .product-drawn .ensures)
+    place-filled _ _ _ _ _ _ _ _ (z .sizes-in .ensures) ok (start .record-start .ensures) (id .id-in .ensures) (marks .set-marks .ensures)
+    (kept .row-from .ensures) (block .write-block .ensures) (tags .write-tags .ensures)
 
 pub fill-place-spec : {M : Type 1} → statement M
 fill-place-spec =
@@ -126,14 +99,10 @@ fill-place-spec =
     record-start-requires
     row-from-requires
     id-in-requires
-    (λ c. search needs)
-    key-stream-requires
     set-marks-requires
     write-block-requires
-    add-product-drawn
-    product-drawn-requires
-    add-archive
-    add-archive-2
-    slice-write-archive
+    (λ c. search needs)
+    add-write-tags
+    write-tags-requires
     same-length
     returns)

@@ -7,7 +7,7 @@ use Rattle.message.proofs.unmasking.unmask.Tie as tie
 
 unmask-into-requires : tie.Need-unmask-into-requires
 unmask-into-requires c κs =
-    unmask-sizes _ _ _ _ _ (c .before .before .before .unmask-check .ensures) (c .before .enum-told .given .1)
+    unmask-sizes _ _ _ _ _ _ (c .before .before .before .unmask-check .ensures) (c .before .enum-told .given .1)
 
 returns : tie.Need-returns
 unfolding unmaskOut
