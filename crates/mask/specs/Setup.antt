@@ -17,7 +17,7 @@ use Rattle.mask.specs.Masks.{maskRow, auxiliary}
 unfoldable pub zeroVector : (n : ℕ) (vector : ℕ → ℕ) → Bool
 zeroVector n vector = not (anyBelow (n - 2) (λ e. differs (vector e) 0))
 
--- refuses 1, 2, 7: that of one tag is enough
+-- refuses 1, 2, 7: one tag whose vector is zero there is enough
 
 unfoldable pub setupAnswer : (tagKey maskKey id : List ℕ) (n tags : ℕ) (out : List ℕ) → Outcome
 setupAnswer tagKey maskKey id n tags out =

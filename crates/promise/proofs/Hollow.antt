@@ -61,7 +61,7 @@ second-row = refl
 
 three-agree : (threeAgree (altered 0x01 (at (0x04 ∷ 0x00 ∷ 0x00 ∷ []))) ≡ false)
     × (threeAgree (altered 0x01 (at (0x00 ∷ 0x2d ∷ 0x12 ∷ []))) ≡ false) × (threeAgree (altered 0x01 (at (0x04 ∷ 0x2d ∷ 0x12 ∷ []))) ≡ true)
-unfolding accepts fails anyBelow appended dataIn product sum times xtimes xtime modulus tab keyVector F1 byteAt half quarterOf setFour quarter quadruples quartersTo rounds blockWords serialised wordAt start blockOf
+unfolding accepts fails anyBelow appended dataIn product sum times xtimes xtime modulus tab
 three-agree = (refl, refl, refl)
 
 zero-second : (setupAnswer zeroSecond L.maskKey L.id 3 1 (0 ∷ 0 ∷ []) ≡ Done)

@@ -3,22 +3,23 @@ use Prim.Native.Nat.{ℕ, _+_, _-_, _<_, _≤_}
 use mathlib.Core.Path.{_≡_, refl, sym, ap, _∙_}
 use mathlib.Core.Bool.{Bool, true, false}
 use mathlib.Core.List.{List}
+use mathlib.Core.Logic.{⊎-elim}
 use native.Mathlib.Nat.{mul-le-mul-right}
 use native.Mathlib.Omega.{arith}
 use lib.Dec.{ltb}
 use lib.ListN.{length}
 use borrow.Author.Tests.{lt-ltb, le-ltb}
 use Rattle.lists.specs.Lists.{pick, at}
-use Rattle.lists.proofs.TabLaws.{tab-at}
+use Rattle.lists.proofs.TabLaws.{order, tab-at}
 use Rattle.lists.proofs.OverLaws.{over-map, over-same}
 use Rattle.field.specs.Field.{times}
 use Rattle.field.proofs.SumLaws.{sum-same}
 use Rattle.vector.specs.Vectors.{product, mixed}
 use Rattle.tag.specs.KeyVector.{withTags}
-use Rattle.vector.proofs.VectorLaws.{mixed-scale, mixed-sum, mixed-same, mixed-zero}
+use Rattle.vector.proofs.VectorLaws.{mixed-scale, mixed-sum, mixed-same, mixed-zero, product-keys}
 use Rattle.tag.proofs.TagLaws.{tags-combine}
 use Rattle.sizes.specs.Lengths.{placeCount, blockLength, recordLength, placeNumber}
-use Rattle.archive.specs.Layout.{layoutOutside, sizesOf, idOf, markAt, filledIn, byteIn, badArchive, stored}
+use Rattle.archive.specs.Layout.{layoutOutside, archiveOf, sizesOf, idOf, markAt, filledIn, byteIn, badArchive, stored}
 use Rattle.archive.specs.Open.{opened}
 use Rattle.archive.specs.Blocks.{source, coded, codedRecord}
 use Rattle.archive.specs.Repair.{repairSum, repairByte, targetByte}
@@ -152,6 +153,29 @@ module _ (s : Setting) (F : Fit s) (t : Table) where
   pub image-rows : (k i : ℕ) → Fine (s .z) (numbered (s .z) t k) → k < placeCount (s .z) → i < s .z .m
       → rowIn (s .z) (image s t) k i ≡ element (numbered (s .z) t k) i
   image-rows k i f h hi = image-number k (s .z .n + i) h (omega arith) ∙ record-row (numbered (s .z) t k) f i hi
+
+-- ---- the image over other vectors that are equal as far as it goes
+
+module _ (s : Setting) (vectors : ℕ → ℕ → ℕ) (same : (k e : ℕ) → k < s .z .tags → e < blockLength (s .z) → vector s k e ≡ vectors k e) where
+  abbrev pub recordOver : Place → ℕ → ℕ
+  recordOver empty p = 0
+  recordOver (filled row) p = codedRecord (s .z) vectors (s .file) (s .padding) (at row) p
+
+  record-over : (x : Place) (p : ℕ) → p < recordLength (s .z) → placeRecord s x p ≡ recordOver x p
+  unfolding codedRecord withTags
+  record-over empty p h = refl
+  record-over (filled row) p h =
+      ⊎-elim
+      (λ (l : p < blockLength (s .z)). rw (lt-ltb p (blockLength (s .z)) l))
+      (λ (l : blockLength (s .z) ≤ p).
+      rw (le-ltb p (blockLength (s .z)) l)
+      (product-keys (blockLength (s .z)) _ _ _ (λ e he. same (p - blockLength (s .z)) e (omega arith) he)))
+      (order p (blockLength (s .z)))
+
+  pub image-over : (t : Table)
+      → image s t ≡ archiveOf (s .layout) (s .z) (s .id) (λ k. isFilled (numbered (s .z) t k)) (λ k. recordOver (numbered (s .z) t k))
+  unfolding image
+  image-over t = archive-same (s .layout) (s .z) (s .id) _ _ _ _ (λ k h. refl) (λ k p h hp. record-over (numbered (s .z) t k) p hp)
 
 -- ---- the image of the empty table is what Open writes
 

@@ -1,14 +1,18 @@
--- Both lives in numbers, by demand 3 and computing. Assumes nothing.
-use Prim.Native.Nat.{ℕ, zero, suc, _<_}
-use mathlib.Core.Path.{_≡_, refl, _∙_}
+-- Both lives in numbers, by demand 3 and by computing. Assumes nothing.
+use Prim.Native.Nat.{ℕ, zero, suc, _+_, _*_, _<_, _≤_}
+use mathlib.Core.Path.{_≡_, refl, sym, ap, _∙_}
 use mathlib.Core.Bool.{true}
-use mathlib.Core.List.{[], _∷_}
+use mathlib.Core.List.{List, [], _∷_}
 use native.Mathlib.Omega.{arith}
+use lib.Dec.{lit≤}
+use borrow.Author.Tests.{lt-leb}
 use Rattle.lists.specs.Lists.{at, tab, flat, over, anyOf, anyBelow, Bytes}
-use Rattle.lists.proofs.TabLaws.{length-tab}
+use Rattle.lists.proofs.TabLaws.{length-tab, tab-at}
+use Rattle.lists.proofs.PutLaws.{flat-at}
 use Rattle.answer.specs.declared.Outcome.the-variants.{Done, Refused}
 use Rattle.answer.specs.declared.Refusal.the-variants.{Length, NoSuchPlace, PlaceEmpty, PlaceFilled}
 use Rattle.answer.specs.Refusals.{refuse, afterwards, outside}
+use Rattle.answer.proofs.RefusalLaws.{after-done}
 use Rattle.field.specs.Field.{sum, modulus, xtime, xtimes, times}
 use Rattle.keystream.specs.ChaCha.{half, quarterOf, setFour, quarter, quadruples, quartersTo, rounds, blockWords, serialised, wordAt, start, blockOf}
 use Rattle.keystream.specs.Draws.{byteAt}
@@ -21,6 +25,8 @@ use Rattle.tag.specs.Vector.{vectorAnswer, vectorOut}
 use Rattle.mask.specs.Masks.{F2, F3, maskRow, maskCoefficient, auxiliary, mask, maskSum}
 use Rattle.mask.specs.Setup.{zeroVector, setupAnswer, setupOut}
 use Rattle.message.specs.Response.{responseBytes}
+use Rattle.message.proofs.ResponseLaws.{response-same}
+use Rattle.vector.proofs.VectorLaws.{product-keys}
 use Rattle.message.specs.Challenge.{Challenge, items, challengeBytes, outOfRule, challengeAnswer, challengeOut}
 use Rattle.archive.specs.Layout.{layoutOutside, tagField, archiveOf}
 use Rattle.archive.specs.Open.{openAnswer}
@@ -29,9 +35,10 @@ use Rattle.archive.specs.Calls.{answerFor}
 use Rattle.archive.specs.Prove.{responseFor}
 use Rattle.promise.specs.Table.{allEmpty, isFilled, numbered, repairedRow, written, tableAnswers}
 use Rattle.promise.specs.Image.{image}
-use Rattle.promise.specs.Demand3.{Given, Admitted, setting, givenAuxiliary, Honest, message, expected, Demand}
+use Rattle.promise.specs.Demand3.{Given, Admitted, setting, givenAuxiliary, Honest, message, namedBlock, expected, Demand}
 use Rattle.promise.specs.Life as L
 use Rattle.promise.specs.Life.{Numbers, calls, table, archive, Lived}
+use Rattle.promise.proofs.ImageLaws.{recordOver, image-over}
 use Rattle.promise.proofs.DemandLaws.{demand3, run-is}
 
 -- ---- what is computed, of both lives
@@ -73,6 +80,15 @@ Vectors w = flat (w .tags) 5 (λ s. at (vectorOut L.tagKey L.id 3 2 s (tab 5 (λ
 vectors : Vectors L.one × Vectors L.three
 unfolding vectorOut vectorAnswer afterwards refuse outside anyOf tab flat keyVector F1 byteAt half quarterOf setFour quarter quadruples quartersTo rounds blockWords serialised wordAt start blockOf
 vectors = (refl, refl)
+
+-- an element of what Vector writes is that of the key vector
+vector-done : (s : ℕ) → s < 10 → vectorAnswer L.tagKey L.id 3 2 s (tab 5 (λ i. 0)) ≡ Done
+unfolding vectorAnswer refuse outside anyOf tab
+vector-done s h = rw (lt-leb 10 s h)
+
+vector-element : (s e : ℕ) → s < 10 → e < 5 → at (vectorOut L.tagKey L.id 3 2 s (tab 5 (λ i. 0))) e ≡ keyVector L.tagKey L.id s e
+unfolding vectorOut
+vector-element s e h he = ap (λ (x : List ℕ). at x e) (after-done _ _ (vector-done s h)) ∙ tab-at 5 (keyVector L.tagKey L.id s) e he
 
 -- ---- the premises
 
@@ -159,6 +175,41 @@ module _ (w : Numbers) (o : Opens w) (u : SetsUp w) where
   abbrev Expected : Filled w → Type 0
   Expected f = expected lives (table (w .tags)) (archive (w .layout) (w .tags)) (audited f) ≡ w .responseBytes
 
+  module _ (v : Vectors w) (few : w .tags ≤ 10) where
+    vector-same : (k e : ℕ) → k < w .tags → e < 5 → keyVector L.tagKey L.id k e ≡ at (w .vectorBytes) (k * 5 + e)
+    vector-same k e h he =
+        sym (vector-element k e (omega arith) he) ∙ sym (flat-at (w .tags) 5 _ k e h he) ∙ ap (λ (x : List ℕ). at x (k * 5 + e)) v
+
+    abbrev ImageOver : Type 0
+    ImageOver =
+        archiveOf (w .layout) (L.z (w .tags)) L.id (λ k. isFilled (numbered (L.z (w .tags)) (table (w .tags)) k))
+        (λ k. recordOver (setting lives) (λ s e. at (w .vectorBytes) (s * 5 + e)) vector-same (numbered (L.z (w .tags)) (table (w .tags)) k))
+        ≡ w .archiveBytes
+
+    image-of : ImageOver → Image
+    image-of e = image-over (setting lives) (λ s e. at (w .vectorBytes) (s * 5 + e)) vector-same (table (w .tags)) ∙ e
+
+    module _ (f : Filled w) where
+      abbrev block : ℕ → ℕ
+      block = namedBlock lives (table (w .tags)) (archive (w .layout) (w .tags)) (audited f)
+
+      abbrev ExpectedOver : Type 0
+      ExpectedOver =
+          responseFor 3 (w .tags) L.id L.maskKey (w .auxiliaryBytes) (audited f .seed) 2 block
+          (λ s. product 5 block (λ e. at (w .vectorBytes) (s * 5 + e)))
+          ≡ w .responseBytes
+
+      expected-of : Elements → ExpectedOver → Expected f
+      unfolding responseFor
+      expected-of e o =
+          ap (λ (x : List ℕ). expectedBy x) e
+          ∙ response-same 3 (w .tags) 2 block block _ _ _ (audited f .seed) _ (omega arith) (λ i h. refl)
+          (λ s h. product-keys 5 block _ _ (λ i hi. vector-same s i h hi))
+          ∙ o
+        where
+          expectedBy : List ℕ → List ℕ
+          expectedBy x = responseFor 3 (w .tags) L.id L.maskKey x (audited f .seed) 2 block (λ s. product 5 block (keyVector L.tagKey L.id s))
+
   life : Answers w → (f : Filled w) → Vectors w → Image → Elements → Expected f → Lived w
   life answers f vectors image elements response =
       let d : Demand lives (calls (w .tags)) (table (w .tags)) (archive (w .layout) (w .tags)) = demand3 lives (calls (w .tags)) life-admitted in
@@ -181,24 +232,23 @@ module _ (w : Numbers) (o : Opens w) (u : SetsUp w) where
 abbrev pub given : Given
 given = lives L.one (opens .0) (sets-up .0)
 
-image-one : Image L.one (opens .0) (sets-up .0)
-unfolding image archiveOf tagField packed pack bitsOf bitOf widths number flat tab numbered answerFor refuse anyOf anyBelow outside afterwards written over repairedRow codedRecord coded source withTags product mixed sum times xtimes xtime modulus keyVector F1 byteAt half quarterOf setFour quarter quadruples quartersTo rounds blockWords serialised wordAt start blockOf
-image-one = refl
-
-image-three : Image L.three (opens .1) (sets-up .1)
-unfolding image archiveOf tagField packed pack bitsOf bitOf widths number flat tab numbered answerFor refuse anyOf anyBelow outside afterwards written over repairedRow codedRecord coded source withTags product mixed sum times xtimes xtime modulus keyVector F1 byteAt half quarterOf setFour quarter quadruples quartersTo rounds blockWords serialised wordAt start blockOf
-image-three = refl
+-- the images are computed over the vectors' bytes
+images-over : ImageOver L.one (opens .0) (sets-up .0) (vectors .0) (lit≤ tt) × ImageOver L.three (opens .1) (sets-up .1) (vectors .1) (lit≤ tt)
+unfolding archiveOf tagField packed pack bitsOf bitOf widths number flat tab numbered answerFor refuse anyOf anyBelow outside afterwards written over repairedRow codedRecord coded source withTags product mixed sum times xtimes xtime modulus
+images-over = (refl, refl)
 
 elements : Elements L.one (opens .0) (sets-up .0) × Elements L.three (opens .1) (sets-up .1)
 unfolding setupOut afterwards setupAnswer zeroVector refuse outside anyOf anyBelow auxiliary maskRow F2 product flat tab keyVector F1 byteAt half quarterOf setFour quarter quadruples quartersTo rounds blockWords serialised wordAt start blockOf sum times xtimes xtime modulus
 elements = (refl, refl)
 
-responses : Expected L.one (opens .0) (sets-up .0) (two-filled .0) × Expected L.three (opens .1) (sets-up .1) (two-filled .1)
-unfolding responseFor responseBytes mask maskSum maskCoefficient F3 answerFor written over repairedRow coded source mixed setupOut afterwards setupAnswer zeroVector refuse outside anyOf anyBelow auxiliary maskRow F2 product flat tab pack packed bitsOf bitOf widths number keyVector F1 byteAt half quarterOf setFour quarter quadruples quartersTo rounds blockWords serialised wordAt start blockOf sum times xtimes xtime modulus
-responses = (refl, refl)
+-- and so are the responses, over Setup's bytes too
+responses-over : ExpectedOver L.one (opens .0) (sets-up .0) (vectors .0) (lit≤ tt) (two-filled .0)
+    × ExpectedOver L.three (opens .1) (sets-up .1) (vectors .1) (lit≤ tt) (two-filled .1)
+unfolding responseFor responseBytes mask maskSum maskCoefficient F3 answerFor written over repairedRow coded source mixed afterwards refuse outside anyOf anyBelow maskRow F2 product tab pack packed bitsOf bitOf widths number byteAt half quarterOf setFour quarter quadruples quartersTo rounds blockWords serialised wordAt start blockOf sum times xtimes xtime modulus
+responses-over = (refl, refl)
 
 pub lived : Lived L.one × Lived L.three
 lived = (
-  life L.one (opens .0) (sets-up .0) (table-answers .0) (two-filled .0) (vectors .0) image-one (elements .0) (responses .0),
-  life L.three (opens .1) (sets-up .1) (table-answers .1) (two-filled .1) (vectors .1) image-three (elements .1) (responses .1),
+  life L.one (opens .0) (sets-up .0) (table-answers .0) (two-filled .0) (vectors .0) (image-of L.one (opens .0) (sets-up .0) (vectors .0) (lit≤ tt) (images-over .0)) (elements .0) (expected-of L.one (opens .0) (sets-up .0) (vectors .0) (lit≤ tt) (two-filled .0) (elements .0) (responses-over .0)),
+  life L.three (opens .1) (sets-up .1) (table-answers .1) (two-filled .1) (vectors .1) (image-of L.three (opens .1) (sets-up .1) (vectors .1) (lit≤ tt) (images-over .1)) (elements .1) (expected-of L.three (opens .1) (sets-up .1) (vectors .1) (lit≤ tt) (two-filled .1) (elements .1) (responses-over .1)),
 )

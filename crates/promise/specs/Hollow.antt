@@ -1,6 +1,6 @@
 -- Mistakes that a program of this kind can have, and programs that do nothing: for each, the fact about the definitions that rules it
 -- out. The numbers are those of the worked values and of the life in numbers.
-use Prim.Native.Nat.{ℕ, _*_, _<_}
+use Prim.Native.Nat.{ℕ, _+_, _*_, _<_}
 use mathlib.Core.Path.{_≡_}
 use mathlib.Core.Logic.{_≢_}
 use mathlib.Core.Bool.{Bool, true, false}
@@ -11,7 +11,6 @@ use Rattle.answer.specs.declared.Outcome.the-variants.{Done, Refused as Refused
 use Rattle.answer.specs.declared.Refusal.the-variants.{Unreadable, ZeroKeyVector}
 use Rattle.field.specs.Field.{plus}
 use Rattle.vector.specs.Vectors.{product}
-use Rattle.tag.specs.KeyVector.{keyVector}
 use Rattle.mask.specs.Masks.{maskRow}
 use Rattle.mask.specs.Setup.{setupAnswer}
 use Rattle.message.specs.Response.{tagIn}
@@ -39,9 +38,9 @@ altered d x =
     0x24 ∷ plus 0x2a d
     ∷ (tab 11 (λ i. 20 * i) ++ (plus 0x63 (x 0) ∷ plus 0xce (x 1) ∷ plus 0x2b (x 2) ∷ 0xc8 ∷ 0x55 ∷ 0x4d ∷ 0xfd ∷ 0x76 ∷ []))
 
--- what Verdict finds of it, by the rows of node 2 combined by 07 and b5
+-- what Verdict finds of it, by that life's key vectors and the rows of node 2 combined by 07 and b5
 abbrev pub threeAgree : List ℕ → Bool
-threeAgree = accepts (L.z 3) (keyVector L.tagKey L.id) (at (0xc8 ∷ 0xde ∷ []))
+threeAgree = accepts (L.z 3) (λ s e. at (L.three .vectorBytes) (s * 5 + e)) (at (0xc8 ∷ 0xde ∷ []))
 
 -- a tag key of which vector 1 alone starts with zero
 abbrev pub zeroSecond : List ℕ
