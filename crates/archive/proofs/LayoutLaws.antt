@@ -1,5 +1,5 @@
 -- An archive is read back as it was written. Assumes nothing.
-use Prim.Native.Nat.{ℕ, zero, suc, _+_, _-_, _*_, _/_, _%_, _<_, _≤_}
+use Prim.Native.Nat.{ℕ, _+_, _-_, _*_, _/_, _%_, _<_, _≤_}
 use mathlib.Core.Path.{_≡_, refl, sym, ap, _∙_}
 use mathlib.Core.Bool.{Bool, true, false}
 use mathlib.Core.List.{List, [], _∷_, _++_, append-assoc}
@@ -12,7 +12,7 @@ use lib.Seq.{ext-getD, take-at, drop-at}
 use borrow.Author.Tests.{leb-true, eqb-true, eq-eqb}
 use Rattle.lists.specs.Lists.{pick, at, flat, anyOf}
 use Rattle.lists.proofs.TabLaws.{order}
-use Rattle.lists.proofs.PutLaws.{skip, length-flat, flat-at, flat-same}
+use Rattle.lists.proofs.PutLaws.{skip, row-some, length-flat, flat-at, flat-same}
 use Rattle.lists.proofs.AnyLaws.{any-none}
 use Rattle.answer.specs.Refusals.{differs}
 use Rattle.answer.proofs.RefusalLaws.{same, differs-same}
@@ -186,9 +186,6 @@ pub same-bytes : (z : Sizes) (s t : List ℕ) → length s ≡ archiveLength z �
     → s ≡ t
 same-bytes z s t ls lt front marks recs = ext-getD 0 s t (ls ∙ sym lt) (λ i h. go i (omega arith))
   where
-    some : (R count j : ℕ) → j < count * R → 0 < R
-    some zero count j l = absurd (omega arith)
-    some (suc R) count j l = omega arith
 
     go : (i : ℕ) → i < archiveLength z → at s i ≡ at t i
     go i h =
@@ -202,7 +199,8 @@ same-bytes z s t ls lt front marks recs = ext-getD 0 s t (ls ∙ sym lt) (λ i h
         let d : j / R * R + j % R ≡ j = div-add-mod' j R in
         let q : i ≡ recordStart z (j / R) + j % R = omega arith in
         let l : j < placeCount z * R = omega arith in
-        rw q (recs (j / R) (j % R) (div-lt-iff-lt-mul {k = R} (some R (placeCount z) j l) .1 l) (mod-lt j (some R (placeCount z) j l))))
+        let low : 0 < R = row-some (placeCount z) R j l in
+        rw q (recs (j / R) (j % R) (div-lt-iff-lt-mul {k = R} low .1 l) (mod-lt j low)))
         (order i 18))
         (order i 12)
 

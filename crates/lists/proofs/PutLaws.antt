@@ -175,19 +175,20 @@ flat-same zero m f g h = refl
 flat-same (suc n) m f g h =
     rw (flat-same n m f g (λ k p l hp. h k p (omega arith) hp), tab-same m (f n) (g n) (λ p hp. h n p (omega arith) hp))
 
+-- rows with an element in them are not empty
+pub row-some : (n m i : ℕ) → i < n * m → 0 < m
+row-some n zero i l = absurd (omega arith)
+row-some n (suc m) i l = omega arith
+
 -- a list with these values, row by row
 pub is-flat : (n m : ℕ) (f : ℕ → ℕ → ℕ) (d : List ℕ) → length d ≡ n * m → ((k p : ℕ) → k < n → p < m → at d (k * m + p) ≡ f k p) → d ≡ flat n m f
 is-flat n m f d e h =
     ext-getD 0 _ _ (e ∙ sym (length-flat n m f)) (λ (i : ℕ) b.
     let l : i < n * m = omega arith in
-    let low : 0 < m = some m i l in
+    let low : 0 < m = row-some n m i l in
     let r : i / m < n = div-lt-iff-lt-mul {k = m} low .1 l in
     let q : i ≡ i / m * m + i % m = sym (div-add-mod' i m) in
     ap (at d) q ∙ h (i / m) (i % m) r (mod-lt i low) ∙ sym (ap (at (flat n m f)) q ∙ flat-at n m f (i / m) (i % m) r (mod-lt i low)))
-  where
-    some : (m i : ℕ) → i < n * m → 0 < m
-    some zero i l = absurd (omega arith)
-    some (suc m) i l = omega arith
 
 -- rows of stores in a whole list
 pub grid-all : (n m : ℕ) (f : ℕ → ℕ → ℕ) (d : List ℕ) → length d ≡ n * m → grid n m 0 f d ≡ flat n m f
