@@ -186,7 +186,6 @@ pub same-bytes : (z : Sizes) (s t : List ℕ) → length s ≡ archiveLength z �
     → s ≡ t
 same-bytes z s t ls lt front marks recs = ext-getD 0 s t (ls ∙ sym lt) (λ i h. go i (omega arith))
   where
-
     go : (i : ℕ) → i < archiveLength z → at s i ≡ at t i
     go i h =
         ⊎-elim (front i)
