@@ -18,7 +18,7 @@
 #include <stddef.h>
 #include <stdint.h>
 
-/* Answers. */
+/* Answers. 10 is none of them. */
 #define SPAN_DONE 0
 #define SPAN_WRONG_SIZE 1     /* a size outside its range: layout 1 or 2, n 3 to 1,024, m 1 to 16, places 1 to 8, nodes 1 to 6, tags 1 to 10
                                  (1 under layout 1), s 0 to 9 */
@@ -30,7 +30,6 @@
 #define SPAN_ZERO_KEY 7       /* a tag key with a key vector, of one of the tags, whose first n-2 elements are zero */
 #define SPAN_UNREADABLE 8     /* the filled rows do not determine the file */
 #define SPAN_MALFORMED 9      /* a message, or fields that no challenge has */
-#define SPAN_ZERO_INVERSE 10
 #define SPAN_REJECTED 255     /* span_verdict alone: no refusal */
 
 /* Lengths, exact ones, in bytes. */
@@ -58,8 +57,8 @@ extern "C" {
 /* The product in GF(2^8) itself; refuses nothing. */
 uint8_t span_multiply(uint8_t a, uint8_t b);
 
-/* The inverse of a into *out. Refuses 10. */
-uint8_t span_inverse(uint8_t a, uint8_t *out);
+/* The inverse in GF(2^8) itself, and 00 of 00; refuses nothing. */
+uint8_t span_inverse(uint8_t a);
 
 /* The ChaCha20 block of a key, a counter and a nonce of 12 bytes into 64 bytes. Refuses 2. */
 uint8_t span_block(const uint8_t *key, size_t key_len, uint32_t counter, const uint8_t *nonce, size_t nonce_len, uint8_t *out,

@@ -152,11 +152,10 @@ static void list_and_read(uint8_t *archive, size_t len) {
 /* The operations on the field and the keystream; and a tag key of which vector 1 alone starts with zero, which Setup takes for one tag. */
 static void values(void) {
     static const uint8_t nonce[12] = {0, 0, 0, 9, 0, 0, 0, 0x4a}, start[4] = {0x10, 0xf1, 0xe7, 0xe4}, key[32] = {[30] = 0x01, [31] = 0x1f};
-    uint8_t *elements = lend(NULL, 5), *block = lend(NULL, 64), inverse = 0;
+    uint8_t *elements = lend(NULL, 5), *block = lend(NULL, 64);
     answer("multiply", 0xc1, span_multiply(0x57, 0x83));
-    answer("inverse", 0, span_inverse(0x53, &inverse));
-    answer("inverse of zero", 10, span_inverse(0, &inverse));
-    expect("the inverse", inverse == 0xca);
+    answer("inverse", 0xca, span_inverse(0x53));
+    answer("inverse of zero", 0, span_inverse(0));
     answer("block", 0, span_block(tag_key, 32, 1, nonce, 12, block, 64));
     expect("the block's first bytes", !memcmp(block, start, 4));
     for (size_t s = 0; s < 3; s++) {

@@ -15,7 +15,7 @@ static struct inputs inputs;
 static uint8_t archive[ARCHIVE(TAGS)], scratch[SCRATCH(TAGS)], message[MESSAGE], response[RESPONSE(TAGS)], out[FILE_LENGTH], count;
 
 static uint8_t multiply(void) { return span_multiply(2, 3) != 6; }
-static uint8_t inverse(void) { return span_inverse(2, &count); }
+static uint8_t inverse(void) { return span_inverse(2) != 0x8d; }
 static uint8_t block(void) { return span_block(tag_key, 32, 1, nonce, 12, out, 64); }
 static uint8_t vector(void) { return span_vector(tag_key, 32, id, 8, N, M, TAGS - 1, out, N + M); }
 static uint8_t open_(void) { return span_open(2, N, M, PLACES, NODES, TAGS, id, 8, archive, ARCHIVE(TAGS)); }

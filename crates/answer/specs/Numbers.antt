@@ -1,12 +1,12 @@
--- The number of each refusal (SCHEME, Refusals).
+-- The number of each refusal (SCHEME, Refusals). No refusal has the number 10.
 use Prim.Native.Nat.{ℕ}
 use Rattle.answer.specs.declared.Refusal.{Refusal}
 use Rattle.answer.specs.declared.Refusal.the-variants.{Size, Length, BadArchive, NoSuchPlace, PlaceEmpty}
-use Rattle.answer.specs.declared.Refusal.the-variants.{PlaceFilled, ZeroKeyVector, Unreadable, Malformed, ZeroInverse}
+use Rattle.answer.specs.declared.Refusal.the-variants.{PlaceFilled, ZeroKeyVector, Unreadable, Malformed}
 use Rattle.answer.specs.declared.Outcome.{Outcome}
 use Rattle.answer.specs.declared.Outcome.the-variants.{Done, Refused}
 
-abbrev pub refusalNumber : (ZeroInverse : Refusal) → ℕ
+abbrev pub refusalNumber : Refusal → ℕ
 refusalNumber Size = 1
 refusalNumber Length = 2
 refusalNumber BadArchive = 3
@@ -16,7 +16,6 @@ refusalNumber PlaceFilled = 6
 refusalNumber ZeroKeyVector = 7
 refusalNumber Unreadable = 8
 refusalNumber Malformed = 9
-refusalNumber ZeroInverse = 10
 
 -- 0 is no refusal's number: it says that the work is done
 abbrev pub outcomeNumber : Outcome → ℕ

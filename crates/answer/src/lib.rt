@@ -4,7 +4,7 @@ ghost use Rattle.answer.specs.Numbers.{refusalNumber, outcomeNumber};
 ghost use Rattle.answer.specs.Refusals as Refusals;
 ghost use Rattle.answer.specs.Counted.{countedNumber};
 
-// The ten refusals, in the order of their numbers, from 1.
+// The refusals, each with its number. No refusal has the number 10.
 pub enum Refusal {
     // 1: a size outside its range.
     Size,
@@ -24,8 +24,6 @@ pub enum Refusal {
     Unreadable,
     // 9: a malformed message, or fields out of rule.
     Malformed,
-    // 10: the inverse of zero.
-    ZeroInverse,
 }
 
 pub enum Outcome {
@@ -54,7 +52,6 @@ pub fn refusal_number(r: Refusal) -> u8
         Refusal::ZeroKeyVector => 7,
         Refusal::Unreadable => 8,
         Refusal::Malformed => 9,
-        Refusal::ZeroInverse => 10,
     }
 }
 

@@ -1,4 +1,4 @@
--- The inverse law, that an inverse is the only one, and that there are no zero divisors. Assumes nothing.
+-- The inverse law, the inverse of zero, that an inverse is the only one, and that there are no zero divisors. Assumes nothing.
 use mathlib.Core.Path.{_≡_, refl, sym, ap, _∙_}
 use mathlib.Core.Bool.{Bool, true, false}
 use mathlib.Core.List.{List, [], _∷_}
@@ -6,13 +6,10 @@ use mathlib.Core.Logic.{_⊎_, inl, inr, ⊎-elim}
 use Prim.Native.Nat.{ℕ, zero, suc, _+_, _-_, _%_, _<_}
 use native.Mathlib.Nat.{mod-eq-of-lt, mod-lt, not-suc-le-zero, eq-or-lt-of-le, le-of-suc-le-suc, eq-zero-or-pos}
 use native.Mathlib.Omega.{arith}
-use borrow.Author.Tests.{eq-eqb, ne-eqb}
 use lib.Dec.{T, eqb, eqb→eq, lit<}
 use Rattle.lists.specs.Lists.{pick, at}
 use Rattle.lists.proofs.AllLaws.{all, all-at}
-use Rattle.field.specs.declared.Inverted.the-variants.{Element, Zero}
 use Rattle.field.specs.Field.{sum, modulus, xtime, xtimes, times, power, last, inverseOf}
-use Rattle.field.specs.Inverse.{inverted}
 use Rattle.field.proofs.TimesLaws.{times-assoc, times-comm, times-zero, times-mod-left, one-times-low}
 use Rattle.field.proofs.PowerLaws.{power-lt, power-add}
 use Rattle.field.proofs.TableLaws.{power-turn}
@@ -64,7 +61,7 @@ last-lt (suc n) p = go (p (suc n)) (last-lt n p)
 
 pub inverse-lt : (a : ℕ) → inverseOf a < 256
 unfolding inverseOf
-inverse-lt a = last-lt 255 (λ b. eqb (times a b) 1)
+inverse-lt a = last-lt 255 _
 
 -- the inverse law
 pub times-inverse : (a : ℕ) → 0 < a → a < 256 → times a (inverseOf a) ≡ 1
@@ -72,6 +69,11 @@ unfolding inverseOf
 times-inverse zero h g = absurd (not-suc-le-zero h)
 times-inverse (suc k) h g =
     eqb→eq _ _ (last-passes 256 (λ b. eqb (times (suc k) b) 1) (at inverses k % 256) (mod-lt _ (lit< tt)) (all-at 255 _ inverses-test k (omega arith)))
+
+-- no product with zero is 1
+pub inverse-zero : inverseOf 0 ≡ 0
+unfolding inverseOf last times xtimes xtime modulus sum
+inverse-zero = refl
 
 -- equal products with a byte that is not zero
 pub times-cancel : (a b c : ℕ) → 0 < a → a < 256 → times a b ≡ times a c → b % 256 ≡ c % 256
@@ -97,12 +99,3 @@ pub inverse-power : (a i : ℕ) → 0 < a → a < 256 → i < 255 → power 3 i 
 inverse-power a i p h l e =
     let m : i + (255 - i) ≡ 255 = omega arith in
     inverse-only a (power 3 (255 - i)) p h (power-lt 3 (255 - i)) (rw (← e, ← power-add 3 i (255 - i), m) power-turn)
-
--- Inverse's answer
-pub inverted-zero : (a : ℕ) → a ≡ 0 → inverted a ≡ Zero
-unfolding inverted
-inverted-zero a e = rw (eq-eqb a 0 e)
-
-pub inverted-element : (a : ℕ) → (a ≡ 0 → ⊥) → inverted a ≡ Element (inverseOf a)
-unfolding inverted
-inverted-element a e = rw (ne-eqb a 0 e)

@@ -41,6 +41,6 @@ unfoldable pub last : (n : ℕ) (p : ℕ → Bool) → ℕ
 last zero p = 0
 last (suc n) p = pick (p n) n (last n p)
 
--- 4.2, the multiplicative inverse: the byte whose product with a is 1
+-- 4.2, the multiplicative inverse: the byte whose product with a is 1; 00 has none and is mapped to itself (5.1.1)
 unfoldable pub inverseOf : (a : ℕ) → ℕ
 inverseOf a = last 256 (λ b. eqb (times a b) 1)

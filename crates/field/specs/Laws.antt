@@ -13,6 +13,8 @@ pub record FieldLaws : Type 0 where
   pub zero : (a : ℕ) → times 0 a ≡ 0
   pub byte : (a b : ℕ) → times a b < 256
   pub inverse : (a : ℕ) → 0 < a → a < 256 → times a (inverseOf a) ≡ 1
+  -- 5.1.1: 00 is mapped to itself
+  pub inverse-zero : inverseOf 0 ≡ 0
   pub only-inverse : (a b : ℕ) → 0 < a → a < 256 → b < 256 → times a b ≡ 1 → b ≡ inverseOf a
   -- no zero divisors
   pub none : (a b : ℕ) → times a b ≡ 0 → (a % 256 ≡ 0) ⊎ (b % 256 ≡ 0)

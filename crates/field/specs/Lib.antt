@@ -1,4 +1,3 @@
 pub mod Field
-pub mod Inverse
 pub mod PrivateTables
 pub mod Laws

@@ -6,12 +6,9 @@ pub use constants::Tables;
 pub use constants::tables;
 ghost use mathlib.Core.Path.{_≡_};
 ghost use Prim.Native.Nat.{_<_};
-ghost use Rattle.field.specs.Field.{times, power};
-ghost use Rattle.field.specs.Inverse.{inverted, invertedOutcome};
+ghost use Rattle.field.specs.Field.{times, power, inverseOf};
 ghost use Rattle.field.specs.PrivateTables.{FieldTables};
 ghost use Rattle.field.specs.Laws.{FieldLaws};
-use answer::Outcome;
-use answer::Refusal;
 
 // 03 to the k, for k up to the sum of two logarithms.
 fn exp(tables: &Tables, k: usize) -> u8
@@ -59,31 +56,12 @@ pub fn multiply(a: u8, b: u8) -> u8
     product(&t, a, b)
 }
 
-// What the inverse of a byte is.
-pub enum Inverted {
-    Element(u8),
-    Zero,
-}
-
-// The inverse, or that the element is zero.
-pub fn inverse(a: u8) -> Inverted
-    ensures { λ r. ⌜ r ≡ inverted a ⌝ }
+// The inverse; of 00, which has no logarithm, 00.
+pub fn inverse(a: u8) -> u8
+    ensures { λ r. ⌜ r ≡ inverseOf a ⌝ }
 {
-    if a == 0 {
-        return Inverted::Zero;
-    }
     let t = tables();
-    Inverted::Element(exp(&t, 255 - log(&t, a)))
-}
-
-// Done for an element, the refusal 10 for zero.
-pub fn outcome(i: Inverted) -> Outcome
-    ensures { λ r. ⌜ r ≡ invertedOutcome i ⌝ }
-{
-    match i {
-        Inverted::Element(_) => Outcome::Done,
-        Inverted::Zero => Outcome::Refused(Refusal::ZeroInverse),
-    }
+    if a == 0 { 0 } else { exp(&t, 255 - log(&t, a)) }
 }
 
 // Carries the laws of the field: without their proof the crate is not proved.

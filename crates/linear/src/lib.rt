@@ -11,7 +11,6 @@ ghost use Rattle.field.specs.Field.{plus, times};
 ghost use Rattle.field.specs.PrivateTables.{FieldTables};
 ghost use Rattle.linear.specs.PrivateElimination.{cells, Reduces, LastIsCombined};
 ghost use Rattle.linear.specs.PrivateSteps.{unitAt, swapOp, scaleOp, Operated};
-use field::Inverted;
 use field::Tables;
 
 // The inverse of an element that is not zero.
@@ -19,10 +18,7 @@ fn inverse_of(a: u8) -> u8
     requires { ⌜ 0 < a ⌝ }
     ensures { λ r. ⌜ times r a ≡ 1 ⌝ }
 {
-    match field::inverse(a) {
-        Inverted::Element(b) => b,
-        Inverted::Zero => 0,
-    }
+    field::inverse(a)
 }
 
 // Rows i and j change places.

@@ -2,11 +2,15 @@
 use mathlib.Core.Path.{_≡_, refl, sym, subst}
 use mathlib.Core.Bool.{false}
 use mathlib.Core.List.{List, [], _∷_}
+use mathlib.Core.Logic.{_≢_}
 use Prim.Native.Nat.{ℕ, zero, suc, _+_, _*_, _/_, _%_, _<_, _≤_}
 use native.Mathlib.Omega.{arith}
 use lib.Dec.{eqb}
 use Rattle.lists.specs.Lists.{at, tab, anyOf, anyBelow, bit, Bytes, howMany}
+use Rattle.answer.specs.declared.Refusal.{Refusal}
+use Rattle.answer.specs.declared.Refusal.the-variants.{Size, Length, BadArchive, NoSuchPlace, PlaceEmpty, PlaceFilled, ZeroKeyVector, Unreadable, Malformed}
 use Rattle.answer.specs.declared.Outcome.the-variants.{Done}
+use Rattle.answer.specs.Numbers.{refusalNumber}
 use Rattle.answer.specs.Refusals.{refuse, outside}
 use Rattle.bits.specs.Fields.{bitOf, bitsOf, widths, number, packed, pack, bitAt, fieldAt}
 use Rattle.sizes.specs.declared.Sizes.{Sizes}
@@ -22,6 +26,17 @@ use Rattle.promise.specs.Worked as W
 use Rattle.promise.specs.SmallCases.{headed, SmallCases}
 use Rattle.promise.proofs.ImageLaws.{image-good, opened-is}
 use Rattle.promise.proofs.Worked.{two-sizes}
+
+not-ten : (r : Refusal) → refusalNumber r ≢ 10
+not-ten Size e = omega arith
+not-ten Length e = omega arith
+not-ten BadArchive e = omega arith
+not-ten NoSuchPlace e = omega arith
+not-ten PlaceEmpty e = omega arith
+not-ten PlaceFilled e = omega arith
+not-ten ZeroKeyVector e = omega arith
+not-ten Unreadable e = omega arith
+not-ten Malformed e = omega arith
 
 both-back : (c : Challenge) (lent : List ℕ) → challengeAnswer c lent ≡ Done → Bytes (c .coefficients)
     → (challengeOf (challengeOut c lent) ≡ c) × (malformedChallenge (challengeOut c lent) ≡ false)
@@ -82,6 +97,7 @@ pub smallCases : SmallCases
 unfolding pack packed bitsOf bitOf widths number tab openAnswer refuse sizesOutside outside anyOf layoutOutside tagField
 smallCases =
     record {
+      ten-unused = not-ten;
       empty-image = opened-is;
       good-image = λ s t l r i. image-good s (record { laid = l; ranged = ranged (s .z) r; id-size = i }) t;
       challenge-back = both-back;

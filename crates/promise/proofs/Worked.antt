@@ -11,7 +11,6 @@ use lib.Dec.{lit<, lit≤}
 use Rattle.lists.specs.Lists.{at, tab, flat, anyOf, anyBelow, howMany}
 use Rattle.answer.specs.Refusals.{refuse, outside, afterwards}
 use Rattle.field.specs.Field.{plus, sum, modulus, xtime, xtimes, times, last, inverseOf}
-use Rattle.field.specs.Inverse.{inverted}
 use Rattle.field.proofs.TimesLaws.{one-times, zero-times, times-zero}
 use Rattle.field.proofs.InverseLaws.{times-cancel}
 use Rattle.bits.specs.Fields.{bitOf, bitsOf, widths, number, packed, pack, bitAt, fieldAt}
@@ -180,7 +179,7 @@ reads-one =
 -- ---- the table
 
 pub worked : W.Worked
-unfolding sum times xtimes xtime modulus inverted inverseOf last withTags product source mixed coded codedRecord tab flat auxiliary mask maskSum responseBytes dataIn pack packed bitsOf bitOf widths number items challengeBytes challengeAnswer challengeOut outOfRule refuse outside afterwards anyOf anyBelow namedRow appended fails accepts namedByte byteIn
+unfolding sum times xtimes xtime modulus inverseOf last withTags product source mixed coded codedRecord tab flat auxiliary mask maskSum responseBytes dataIn pack packed bitsOf bitOf widths number items challengeBytes challengeAnswer challengeOut outOfRule refuse outside afterwards anyOf anyBelow namedRow appended fails accepts namedByte byteIn
 worked =
     record {
       product-83 = refl;

@@ -3,9 +3,11 @@ use Prim.Native.Nat.{ℕ, zero, suc}
 use mathlib.Core.Path.{_≡_}
 use mathlib.Core.Bool.{Bool, true, false}
 use mathlib.Core.List.{List, [], _∷_}
+use mathlib.Core.Logic.{_≢_}
 use lib.ListN.{length}
+use Rattle.answer.specs.declared.Refusal.{Refusal}
 use Rattle.answer.specs.declared.Outcome.the-variants.{Done}
-use Rattle.answer.specs.Numbers.{outcomeNumber}
+use Rattle.answer.specs.Numbers.{refusalNumber, outcomeNumber}
 use Rattle.bits.specs.Fields.{pack, packed}
 use Rattle.sizes.specs.declared.Sizes.{Sizes}
 use Rattle.sizes.specs.Sizes.{sizesOutside}
@@ -38,6 +40,8 @@ headed i =
     ∷ tab (at (32 ∷ 32 ∷ 29 ∷ 62 ∷ 32 ∷ []) i) (λ j. 0)
 
 pub record SmallCases : Type 0 where
+  -- nothing answers 10
+  pub ten-unused : (r : Refusal) → refusalNumber r ≢ 10
   -- the image of the empty table is what Open writes
   pub empty-image : (s : Setting) → opened (s .layout) (s .z) (s .id) ≡ image s allEmpty
   -- an image is not a bad archive

@@ -6,9 +6,7 @@ use mathlib.Core.List.{List, [], _∷_, _++_}
 use Rattle.lists.specs.Lists.{at, tab}
 use Rattle.answer.specs.declared.Refusal.the-variants.{Unreadable}
 use Rattle.answer.specs.Numbers.{outcomeNumber}
-use Rattle.field.specs.Field.{plus, times}
-use Rattle.field.specs.Inverse.{inverted, invertedOutcome}
-use Rattle.field.specs.declared.Inverted.the-variants.{Element}
+use Rattle.field.specs.Field.{plus, times, inverseOf}
 use Rattle.sizes.specs.declared.Sizes.{Sizes}
 use Rattle.vector.specs.Vectors.{product}
 use Rattle.mask.specs.Masks.{auxiliary, mask, maskSum}
@@ -82,8 +80,8 @@ pub record Worked : Type 0 where
   -- products and inverses
   pub product-83 : times 0x57 0x83 ≡ 0xc1
   pub product-13 : times 0x57 0x13 ≡ 0xfe
-  pub inverse-53 : inverted 0x53 ≡ Element 0xca
-  pub inverse-00 : outcomeNumber (invertedOutcome (inverted 0x00)) ≡ 10
+  pub inverse-53 : inverseOf 0x53 ≡ 0xca
+  pub inverse-00 : inverseOf 0x00 ≡ 0x00
   -- the source blocks b1 and b2, with their tags
   pub b1 : tab 6 (withTags 5 vectors (source z file padding 0)) ≡ 0x57 ∷ 0x01 ∷ 0x00 ∷ 0x01 ∷ 0x00 ∷ 0xc0 ∷ []
   pub b2 : tab 6 (withTags 5 vectors (source z file padding 1)) ≡ 0x01 ∷ 0x00 ∷ 0x04 ∷ 0x00 ∷ 0x01 ∷ 0x82 ∷ []

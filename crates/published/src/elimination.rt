@@ -30,10 +30,28 @@ fn kept() {
     );
 }
 
+// Zeros where a pivot is sought first: the pivot stands in a later row, or in a later row and column.
+fn zero_pivots() {
+    let mut a = [[0u8; 16]; 16];
+    a[0][1] = 1;
+    a[1][0] = 1;
+    rank(b"Rank of 00 01 and 01 00", 2, a, 2, 2);
+    cases::bytes(
+        b"Combinations that solve them",
+        &[0x00, 0x01, 0x01, 0x00],
+        &combinations(a),
+    );
+    let mut b = [[0u8; 16]; 16];
+    b[1][1] = 5;
+    rank(b"Rank of 00 00", 0, b, 1, 2);
+    rank(b"Rank of 00 00 and 00 05", 1, b, 2, 2);
+}
+
 pub fn run() {
     let mut a = [[0u8; 16]; 16];
     rank(b"Rank of no row, m=2", 0, a, 0, 2);
     rank(b"Rank of sixteen rows of zeros, m=16", 0, a, 16, 16);
+    zero_pivots();
     a[0][0] = 1;
     rank(b"Rank of 01 00", 1, a, 1, 2);
     a[1][0] = 2;

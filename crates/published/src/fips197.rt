@@ -1,6 +1,5 @@
-// FIPS 197: products (4.2), the chain of xtime (4.2.1), the S-box (5.1.1), and every product against a second method.
+// FIPS 197: products and inverses (4.2), the chain of xtime (4.2.1), the S-box (5.1.1), and every product against a second method.
 ghost use Prim.Native.Nat.{_≤_};
-use field::Inverted;
 
 // Figure 7, row by row.
 const SBOX: [u8; 256] = *b"\x63\x7c\x77\x7b\xf2\x6b\x6f\xc5\x30\x01\x67\x2b\xfe\xd7\xab\x76\
@@ -33,22 +32,15 @@ fn products() {
     product(b"FIPS 197 4.2.1, 57 * 13", 0x57, 0x13, 0xfe);
 }
 
-// The inverse, 00 mapped to itself.
-fn inverse_or_zero(x: u8) -> u8 {
-    match field::inverse(x) {
-        Inverted::Element(b) => b,
-        Inverted::Zero => 0,
-    }
+fn inverse(label: &[u8], a: u8, expected: u8) {
+    cases::number(label, expected as u64, field::inverse(a) as u64);
 }
 
-// The byte, and the number of the answer; an element with a refusal's number cannot be.
-fn inverse_case(label: &[u8], a: u8, expected: u8, answered: u8) {
-    cases::number(label, expected as u64, inverse_or_zero(a) as u64);
-    cases::number(
-        b"Inverse's answer",
-        answered as u64,
-        answer::number(field::outcome(field::inverse(a))) as u64,
-    );
+fn inverses() {
+    inverse(b"Inverse of 00", 0x00, 0x00);
+    inverse(b"Inverse of 01", 0x01, 0x01);
+    inverse(b"Inverse of 53", 0x53, 0xca);
+    inverse(b"Inverse of ff", 0xff, 0x1c);
 }
 
 // Bit i of b.
@@ -56,9 +48,9 @@ fn bit(b: u8, i: u8) -> u8 {
     (b >> (i % 8)) % 2
 }
 
-// 5.1.1: the inverse, 00 mapped to itself, then the affine map, bit by bit.
+// 5.1.1: the inverse, which maps 00 to itself, then the affine map, bit by bit.
 fn substituted(x: u8) -> u8 {
-    let b = inverse_or_zero(x);
+    let b = field::inverse(x);
     let mut r = 0u8;
     for i in 0u8..8 {
         let s = bit(b, i)
@@ -141,8 +133,7 @@ fn all_products() {
 
 pub fn run() {
     products();
-    inverse_case(b"FIPS 197, inverse of 53", 0x53, 0xca, 0);
-    inverse_case(b"Inverse of 00", 0x00, 0x00, 10);
+    inverses();
     sbox();
     all_products();
 }

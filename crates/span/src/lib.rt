@@ -3,9 +3,7 @@ ghost use mathlib.Core.Path.{_≡_};
 ghost use Prim.Native.Nat.{_<_};
 ghost use lib.ListN.{length};
 ghost use Rattle.answer.specs.Numbers.{outcomeNumber};
-ghost use Rattle.answer.specs.Refusals.{afterwards};
-ghost use Rattle.field.specs.Field.{times};
-ghost use Rattle.field.specs.Inverse.{inverted, invertedOutcome, invertedValue};
+ghost use Rattle.field.specs.Field.{times, inverseOf};
 ghost use Rattle.keystream.specs.Block.{blockAnswer, blockOut};
 ghost use Rattle.tag.specs.Vector.{vectorAnswer, vectorOut};
 ghost use Rattle.mask.specs.Setup.{setupAnswer, setupOut};
@@ -22,7 +20,6 @@ ghost use Rattle.archive.specs.Inventory.{InventoryAllows};
 ghost use Rattle.archive.specs.Read.{ReadAllows};
 ghost use Rattle.sizes.specs.declared.Sizes.{Sizes};
 use answer::Counted;
-use field::Inverted;
 
 #[no_mangle]
 pub extern "C" fn span_multiply(a: u8, b: u8) -> u8
@@ -32,18 +29,10 @@ pub extern "C" fn span_multiply(a: u8, b: u8) -> u8
 }
 
 #[no_mangle]
-pub extern "C" fn span_inverse(a: u8, out: &mut u8) -> u8
-    ensures number { λ r. ⌜ r ≡ outcomeNumber (invertedOutcome (inverted a)) ⌝ }
-    ensures output { λ _.
-        ⌜ now (out .exit) ≡ afterwards (invertedOutcome (inverted a)) (now (out .entry)) (invertedValue (inverted a)) ⌝ }
+pub extern "C" fn span_inverse(a: u8) -> u8
+    ensures { λ r. ⌜ r ≡ inverseOf a ⌝ }
 {
-    let i = field::inverse(a);
-    let number = answer::number(field::outcome(i));
-    if let Inverted::Element(b) = i {
-        *out = b;
-        return number;
-    }
-    number
+    field::inverse(a)
 }
 
 #[no_mangle]

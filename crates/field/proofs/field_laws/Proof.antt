@@ -1,6 +1,6 @@
 use Rattle.field.proofs.TimesLaws.{times-comm, times-assoc, times-xor-right, one-times, zero-times, times-lt}
 use Rattle.field.proofs.SumLaws.{sum-none, sum-last}
-use Rattle.field.proofs.InverseLaws.{times-inverse, inverse-only, times-none}
+use Rattle.field.proofs.InverseLaws.{times-inverse, inverse-zero, inverse-only, times-none}
 use Rattle.field.proofs.field_laws.Statement.{statement}
 use Rattle.field.proofs.field_laws.Tie as tie
 
@@ -14,6 +14,7 @@ returns c =
       zero = zero-times;
       byte = times-lt;
       inverse = times-inverse;
+      inverse-zero = inverse-zero;
       only-inverse = inverse-only;
       none = times-none;
       empty-sum = sum-none;

@@ -9,8 +9,8 @@ Inv-loop x b r₀ i₀ r i = i ≤ 8
 abbrev μ-loop : tie.MeasureT-loop
 μ-loop x b r₀ i₀ r i = 8 - i
 
-inverse-or-zero-requires : tie.Need-inverse-or-zero-requires Inv-loop μ-loop
-inverse-or-zero-requires c κs = search needs
+inverse-requires : tie.Need-inverse-requires Inv-loop μ-loop
+inverse-requires c κs = search needs
 
 loop-holds : tie.Need-loop-holds Inv-loop μ-loop
 loop-holds c = search needs
@@ -66,7 +66,7 @@ substituted-spec =
     (tie.spec
     Inv-loop
     μ-loop
-    inverse-or-zero-requires
+    inverse-requires
     loop-holds
     bit-requires
     add-bit
