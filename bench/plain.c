@@ -215,10 +215,12 @@ TIMED_ALONE void c_prove(uint8_t *archive, size_t node, const uint8_t *coefficie
 }
 
 TIMED_ALONE uint8_t c_verdict(const uint8_t *key, size_t tags, const uint8_t *rows, const uint8_t *coefficients, const uint8_t *response) {
+    static const uint8_t zeros[M];
     uint8_t vector[BLOCK + 64], data[BLOCK] = {0};
     memcpy(data, response + 1, N - 2);
     memcpy(data + N - 2, response + N + 10 + tags, 2);
     for (size_t j = 0; j < PLACES; j++) add(coefficients[j], rows + j * M, data + N, M);
+    if (!memcmp(data + N, zeros, M)) return 11;
     for (size_t s = 0; s < tags; s++) {
         uint8_t total = response[N + 12 + tags + s] ^ response[N + 10 + s];
         key_vector(key, id, s, vector, (BLOCK + 63) / 64);

@@ -20,17 +20,18 @@
 
 /* Answers. 10 is none of them. */
 #define SPAN_DONE 0
-#define SPAN_WRONG_SIZE 1     /* a size outside its range: layout 1 or 2, n 3 to 1,024, m 1 to 16, places 1 to 8, nodes 1 to 6, tags 1 to 10
-                                 (1 under layout 1), s 0 to 9 */
-#define SPAN_WRONG_LENGTH 2   /* a buffer that has not exactly its length */
+#define SPAN_WRONG_SIZE 1      /* a size outside its range: layout 1 or 2, n 3 to 1,024, m 1 to 16, places 1 to 8, nodes 1 to 6, tags 1 to 10
+                                  (1 under layout 1), s 0 to 9 */
+#define SPAN_WRONG_LENGTH 2    /* a buffer that has not exactly its length */
 #define SPAN_BAD_ARCHIVE 3
-#define SPAN_NO_SUCH_PLACE 4  /* nor node */
-#define SPAN_PLACE_EMPTY 5    /* a place that is needed */
-#define SPAN_PLACE_FILLED 6   /* a place that would be filled */
-#define SPAN_ZERO_KEY 7       /* a tag key with a key vector, of one of the tags, whose first n-2 elements are zero */
-#define SPAN_UNREADABLE 8     /* the filled rows do not determine the file */
-#define SPAN_MALFORMED 9      /* a message, or fields that no challenge has */
-#define SPAN_REJECTED 255     /* span_verdict alone: no refusal */
+#define SPAN_NO_SUCH_PLACE 4   /* nor node */
+#define SPAN_PLACE_EMPTY 5     /* a place that is needed */
+#define SPAN_PLACE_FILLED 6    /* a place that would be filled */
+#define SPAN_ZERO_KEY 7        /* a tag key with a key vector, of one of the tags, whose first n-2 elements are zero */
+#define SPAN_UNREADABLE 8      /* the filled rows do not determine the file */
+#define SPAN_MALFORMED 9       /* a message, or fields that no challenge has */
+#define SPAN_PROVES_NOTHING 11 /* span_verdict alone: the named rows cancel, so any box could answer the challenge; draw another */
+#define SPAN_REJECTED 255      /* span_verdict alone: no refusal */
 
 /* Lengths, exact ones, in bytes. */
 #define SPAN_KEY_BYTES 32
@@ -105,7 +106,7 @@ uint8_t span_prove(const uint8_t *archive, size_t archive_len, const uint8_t *ma
 
 /* 0 for accepted, where every tag agrees, 255 for rejected, else the refusal, which speaks of the call and not of the box. The rows are those
    of the challenged node, places*m bytes, zeros for empty places; they come from the owner, never from the box. Refuses 1, 9, 2, 4, 9 (the
-   response's first byte). */
+   response's first byte), 11 (the rows of the named places, combined by the coefficients, are zero). */
 uint8_t span_verdict(const uint8_t *tag_key, size_t tag_key_len, const uint8_t *id, size_t id_len, size_t n, size_t m, size_t places,
                      size_t nodes, size_t tags, const uint8_t *rows, size_t rows_len, const uint8_t *message, size_t message_len,
                      const uint8_t *response, size_t response_len);

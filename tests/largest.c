@@ -40,10 +40,10 @@ static void setup(void) {
 }
 
 /* Verdict on a response, with the rows that the node's records have. */
-static void judge(unsigned expected, size_t node, const uint8_t *message, const uint8_t *response) {
+static void judge(unsigned expected, size_t node, const uint8_t *coefficients, const uint8_t *message, const uint8_t *response) {
     uint8_t rows[PLACES * M];
     for (size_t k = 0; k < PLACES; k++) memcpy(rows + k * M, theirs + 18 + (node * PLACES + k) * RECORD(tags) + N, M);
-    answer("plain verdict", expected, c_verdict(tag_key, tags, rows, inputs.coefficients, response));
+    answer("plain verdict", expected, c_verdict(tag_key, tags, rows, coefficients, response));
     answer("verdict", expected,
            span_verdict(tag_key, 32, id, 8, N, M, PLACES, NODES, tags, rows, PLACES * M, message, MESSAGE, response, RESPONSE(tags)));
 }
@@ -51,8 +51,17 @@ static void judge(unsigned expected, size_t node, const uint8_t *message, const 
 /* Verdict on a response with one byte changed. */
 static void judge_changed(size_t node, const uint8_t *message, uint8_t *response, size_t at) {
     response[at] ^= 1;
-    judge(255, node, message, response);
+    judge(255, node, inputs.coefficients, message, response);
     response[at] ^= 1;
+}
+
+/* Verdict on the same response, to a challenge whose coefficients are zero. */
+static void judge_nothing(size_t node, const uint8_t *response) {
+    static const uint8_t zeros[PLACES];
+    uint8_t *message = lend(NULL, MESSAGE);
+    answer("challenge with zeros", 0, span_challenge(node, items, PLACES, zeros, PLACES, message, MESSAGE));
+    judge(11, node, zeros, message, response);
+    give_back("the message of zeros", message, MESSAGE);
 }
 
 /* Challenge of all places of a node, Prove, Verdict and Unmask; and Verdict on a masked byte, a mask sum and a tag that were changed. */
@@ -66,7 +75,7 @@ static void audit(size_t node) {
                                   response, RESPONSE(tags)));
     c_prove(theirs, node, inputs.coefficients, mask_key, seed, plain);
     expect("the response", !memcmp(response, plain, RESPONSE(tags)));
-    judge(0, node, message, response);
+    judge(0, node, inputs.coefficients, message, response);
     answer("unmask", 0, span_unmask(N, tags, id, 8, mask_key, 32, response, RESPONSE(tags), block, N - 2));
     c_unmask(id, mask_key, plain, bare);
     expect("the unmasked bytes", !memcmp(block, bare, N - 2));
@@ -75,6 +84,7 @@ static void audit(size_t node) {
         judge_changed(node, message, response, N + 10 + s);
         judge_changed(node, message, response, N + 12 + tags + s);
     }
+    judge_nothing(node, response);
     give_back("challenge's message", message, MESSAGE);
     give_back("prove's response", response, RESPONSE(tags));
     give_back("unmask's block", block, N - 2);

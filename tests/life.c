@@ -94,20 +94,44 @@ static void repair_by_one_named_twice(void) {
     give_back("its archive", archive, ARCHIVE(1));
 }
 
-/* Verdict on a response, with the rows that node 2 has. */
-static void judge(const char *what, unsigned expected, size_t tags, const uint8_t *message, const uint8_t *response) {
-    static const uint8_t rows[4] = {0xf3, 0xfe, 0x72, 0xfb};
-    answer(what, expected, span_verdict(tag_key, 32, id, 8, 3, 2, 2, 3, tags, rows, 4, message, 5, response, RESPONSE(tags)));
+/* Verdict on a response to a challenge for some places, with the rows that the challenged node has. */
+static void judge(const char *what, unsigned expected, size_t tags, const uint8_t *message, size_t places, const uint8_t *response) {
+    static const uint8_t rows[3][4] = {{0x00}, {0x53, 0xca, 0x00, 0x00}, {0xf3, 0xfe, 0x72, 0xfb}};
+    const uint8_t *of_node = rows[message[0] >> 1 & 3];
+    answer(what, expected,
+           span_verdict(tag_key, 32, id, 8, 3, 2, 2, 3, tags, of_node, 4, message, SPAN_CHALLENGE_BYTES(places), response, RESPONSE(tags)));
 }
 
 /* A masked byte is changed, and then the mask sums by as much, one after another: only all of them together are accepted. */
 static void judge_changed(size_t tags, const uint8_t *message, uint8_t *response) {
     response[1] ^= 1;
-    judge("verdict on a changed response", 255, tags, message, response);
+    judge("verdict on a changed response", 255, tags, message, 2, response);
     for (size_t s = 0; s < tags; s++) {
         response[13 + s] ^= vectors[s][0];
-        judge("verdict on changed mask sums", s + 1 < tags ? 255 : 0, tags, message, response);
+        judge("verdict on changed mask sums", s + 1 < tags ? 255 : 0, tags, message, 2, response);
     }
+}
+
+/* Node 1's place 1 holds the row 00 00: Prove answers a challenge for it, and Verdict says of any response that it proves nothing. */
+static void audit_nothing(const struct life *of, const uint8_t *archive, const uint8_t *elements) {
+    static const uint8_t place[1] = {1}, coefficient[1] = {0x01}, challenge[3] = {0x12, 0x24, 0x04};
+    size_t tags = of->tags, len = RESPONSE(tags);
+    uint8_t *message = lend(NULL, 3), *response = lend(NULL, len), expected[RESPONSE(3)] = {0x22, 0x5e};
+    memcpy(expected + 2, seed, 11);
+    memcpy(expected + 13, of->response + 13, tags);
+    answer("challenge for a zero row", 0, span_challenge(1, place, 1, coefficient, 1, message, 3));
+    expect("its message", !memcmp(message, challenge, 3));
+    answer("prove of a zero row", 0,
+           span_prove(archive, ARCHIVE(tags), mask_key, 32, elements, AUXILIARY(tags), seed, 11, message, 3, response, len));
+    expect("its response", !memcmp(response, expected, len));
+    judge("verdict on a zero row", 11, tags, message, 1, response);
+    for (size_t i = 0; i < len; i++) {
+        response[i] ^= 1;
+        judge("verdict on a zero row and a changed response", i ? 11 : 9, tags, message, 1, response);
+        response[i] ^= 1;
+    }
+    give_back("the message for a zero row", message, 3);
+    give_back("the response of a zero row", response, len);
 }
 
 /* Setup, Challenge, Prove, Verdict and Unmask; and responses that were changed. */
@@ -121,10 +145,11 @@ static void audit(const struct life *of, const uint8_t *archive) {
     expect("the challenge", !memcmp(message, challenge, 5));
     answer("prove", 0, span_prove(archive, ARCHIVE(tags), mask_key, 32, elements, count, seed, 11, message, 5, response, len));
     expect("the response", !memcmp(response, of->response, len));
-    judge("verdict", 0, tags, message, response);
+    judge("verdict", 0, tags, message, 2, response);
     answer("unmask", 0, span_unmask(3, tags, id, 8, mask_key, 32, response, len, block, 1));
     expect("the unmasked byte", block[0] == 0x74);
     judge_changed(tags, message, response);
+    audit_nothing(of, archive, elements);
     give_back("setup's elements", elements, count);
     give_back("challenge's message", message, 5);
     give_back("prove's response", response, len);

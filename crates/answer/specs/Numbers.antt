@@ -2,7 +2,7 @@
 use Prim.Native.Nat.{ℕ}
 use Rattle.answer.specs.declared.Refusal.{Refusal}
 use Rattle.answer.specs.declared.Refusal.the-variants.{Size, Length, BadArchive, NoSuchPlace, PlaceEmpty}
-use Rattle.answer.specs.declared.Refusal.the-variants.{PlaceFilled, ZeroKeyVector, Unreadable, Malformed}
+use Rattle.answer.specs.declared.Refusal.the-variants.{PlaceFilled, ZeroKeyVector, Unreadable, Malformed, ProvesNothing}
 use Rattle.answer.specs.declared.Outcome.{Outcome}
 use Rattle.answer.specs.declared.Outcome.the-variants.{Done, Refused}
 
@@ -16,6 +16,7 @@ refusalNumber PlaceFilled = 6
 refusalNumber ZeroKeyVector = 7
 refusalNumber Unreadable = 8
 refusalNumber Malformed = 9
+refusalNumber ProvesNothing = 11
 
 -- 0 is no refusal's number: it says that the work is done
 abbrev pub outcomeNumber : Outcome → ℕ

@@ -24,6 +24,8 @@ pub enum Refusal {
     Unreadable,
     // 9: a malformed message, or fields out of rule.
     Malformed,
+    // 11: a challenge whose combined row is zero.
+    ProvesNothing,
 }
 
 pub enum Outcome {
@@ -52,6 +54,7 @@ pub fn refusal_number(r: Refusal) -> u8
         Refusal::ZeroKeyVector => 7,
         Refusal::Unreadable => 8,
         Refusal::Malformed => 9,
+        Refusal::ProvesNothing => 11,
     }
 }
 

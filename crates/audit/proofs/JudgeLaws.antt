@@ -1,7 +1,7 @@
 -- The turns of the code that judges a response, and what Verdict's answer tells. Assumes nothing.
 use Prim.Native.Nat.{ℕ, _+_, _-_, _*_, _<_, _≤_}
 use mathlib.Core.Path.{_≡_, refl, sym, ap, ap₂, _∙_}
-use mathlib.Core.Bool.{Bool, false, not}
+use mathlib.Core.Bool.{Bool, true, false, not}
 use mathlib.Core.List.{List}
 use mathlib.Core.Logic.{⊎-elim}
 use native.Mathlib.Omega.{arith}
@@ -13,6 +13,7 @@ use Rattle.lists.proofs.PutLaws.{put-front}
 use Rattle.lists.proofs.PartLaws.{part, part-at}
 use Rattle.lists.proofs.AnyLaws.{none-at, any-same}
 use Rattle.answer.specs.declared.Refusal.{Refusal}
+use Rattle.answer.specs.declared.Refusal.the-variants.{ProvesNothing}
 use Rattle.answer.specs.declared.Outcome.{Outcome}
 use Rattle.answer.specs.declared.Outcome.the-variants.{Done, Refused as RefusedOutcome}
 use Rattle.answer.specs.Refusals.{differs}
@@ -21,9 +22,9 @@ use Rattle.field.specs.Field.{plus}
 use Rattle.sizes.specs.declared.Sizes.{Sizes}
 use Rattle.sizes.specs.Sizes.{sizesOutside}
 use Rattle.tag.specs.KeyVector.{keyVector}
-use Rattle.vector.specs.Vectors.{product, added}
+use Rattle.vector.specs.Vectors.{product, added, allZero}
 use Rattle.sizes.proofs.SizeLaws.{ranged}
-use Rattle.vector.proofs.VectorLaws.{mixed-vectors, product-same, product-keys, product-split}
+use Rattle.vector.proofs.VectorLaws.{mixed-vectors, product-same, product-keys, product-split, zero-same}
 use Rattle.vector.proofs.AddedLaws.{added-zeros}
 use Rattle.linear.specs.declared.rows.Row.{Row}
 use Rattle.linear.specs.PrivateRows.{kept}
@@ -127,6 +128,9 @@ module _ (key id : List ℕ) (z : Sizes) (rows message response : List ℕ) wher
   abbrev answer : Outcome
   answer = verdictFor z key id rows (challengeOf message) (malformedChallenge message) response
 
+  abbrev combined : ℕ → ℕ
+  combined = namedRow z rows (challengeOf message)
+
   pub record Judged : Type 0 where
     pub sized : sizesOutside z ≡ false
     pub formed : malformedChallenge message ≡ false
@@ -152,16 +156,26 @@ module _ (key id : List ℕ) (z : Sizes) (rows message response : List ℕ) wher
         there = accepted _ _ _ (three .1) .0;
       }
 
-  pub verdict-judged : answer ≡ Done → (b : Bool) {row : Row} {t : Bool} → row ≡ kept (z .m) (namedRow z rows (challengeOf message))
-      → t ≡ anyBelow (z .tags) (fails z (keyVector key id) (at (row .bytes)) response) → t ≡ b
-      → pick (not b) Accepted Rejected ≡ verdictOf key id z rows message response
-  unfolding verdictOf judgement accepts
-  verdict-judged e b named w tested =
-      let v = keyVector key id in
-      let row-is = kept-at (z .m) _ (ranged z (verdict-tells e .sized) .m-high) named in
-      let row = namedRow z rows (challengeOf message) in
-      let same = any-same (z .tags) _ _ (λ s l. fails-same z v v _ row response s (λ i h. refl) row-is) in
-      rw (e, ← same, ← w, tested)
+  -- what is found of the row as it is kept
+  module _ (e : answer ≡ Done) {row : Row} (named : row ≡ kept (z .m) combined) {t : Bool} (w : t ≡ allZero (z .m) (at (row .bytes))) where
+    abbrev row-is : (i : ℕ) → i < z .m → at (row .bytes) i ≡ combined i
+    row-is = kept-at (z .m) _ (ranged z (verdict-tells e .sized) .m-high) named
+
+    zero-is : (b : Bool) → t ≡ b → allZero (z .m) combined ≡ b
+    zero-is b tested = sym (zero-same (z .m) _ _ row-is) ∙ sym w ∙ tested
+
+    pub verdict-unproved : t ≡ true → Refused ProvesNothing ≡ verdictOf key id z rows message response
+    unfolding verdictOf judgement
+    verdict-unproved tested = sym (ap₂ (λ (o : Outcome) (nothing : Bool). judgement o nothing (accepts z (keyVector key id) combined response)) e (zero-is true tested))
+
+    pub verdict-judged : t ≡ false → (b : Bool) {u : Bool}
+        → u ≡ anyBelow (z .tags) (fails z (keyVector key id) (at (row .bytes)) response) → u ≡ b
+        → pick (not b) Accepted Rejected ≡ verdictOf key id z rows message response
+    unfolding verdictOf judgement accepts
+    verdict-judged tested b v found =
+        let k = keyVector key id in
+        let same = any-same (z .tags) _ _ (λ s l. fails-same z k k _ _ response s (λ i h. refl) row-is) in
+        rw (e, zero-is false tested, ← same, ← v, found)
 
   pub verdict-refused : {r : Refusal} → answer ≡ RefusedOutcome r → Refused r ≡ verdictOf key id z rows message response
   unfolding verdictOf judgement

@@ -35,7 +35,7 @@ pub fn number(j: Judgement) -> u8
     }
 }
 
-// The first refusal of Verdict.
+// The first refusal of Verdict before 11.
 fn verdict_check(
     tag_key: &[u8],
     id: &[u8],
@@ -141,7 +141,7 @@ fn any_fails(
     false
 }
 
-// The judgement where nothing is refused.
+// The judgement where nothing before 11 is refused.
 fn judged(
     tag_key: &[u8],
     id: &[u8],
@@ -162,6 +162,9 @@ fn judged(
 {
     let tables = field::tables();
     let row = named_row(&tables, z, rows, message);
+    if linear::all_zero(row, z.m) {
+        return Judgement::Refused(Refusal::ProvesNothing);
+    }
     if any_fails(&tables, z, row, response, tag_key, id) {
         Judgement::Rejected
     } else {

@@ -2,6 +2,7 @@
 mod rows;
 
 pub use rows::Row;
+pub use rows::all_zero;
 pub use rows::dot;
 pub use rows::row_from;
 ghost use mathlib.Core.Path.{_≡_};

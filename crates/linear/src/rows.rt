@@ -4,7 +4,7 @@ ghost use Prim.Native.Nat.{_+_, _≤_};
 ghost use lib.ListN.{length};
 ghost use Rattle.lists.specs.Lists.{at};
 ghost use Rattle.field.specs.PrivateTables.{FieldTables};
-ghost use Rattle.vector.specs.Vectors.{product};
+ghost use Rattle.vector.specs.Vectors.{product, allZero};
 ghost use Rattle.linear.specs.PrivateRows.{kept};
 use field::Tables;
 
@@ -21,6 +21,19 @@ pub fn row_from(s: &[u8], from: usize, m: usize) -> Row
     let mut bytes = [0u8; 16];
     lists::store(s, from, &mut bytes, 0, m);
     Row { bytes }
+}
+
+// Whether a row's m elements are zero.
+pub fn all_zero(row: Row, m: usize) -> bool
+    requires { ⌜ m ≤ 16 ⌝ }
+    ensures { λ r. ⌜ r ≡ allZero m (at (row .bytes)) ⌝ }
+{
+    for i in 0..m {
+        if row.bytes[i] != 0 {
+            return false;
+        }
+    }
+    true
 }
 
 // The product of a row's m elements and the first m bytes of a vector.

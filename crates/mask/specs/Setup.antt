@@ -1,6 +1,5 @@
 -- The operation Setup (SCHEME, Operations).
 use Prim.Native.Nat.{ℕ, _-_}
-use mathlib.Core.Bool.{Bool, not}
 use mathlib.Core.List.{List, [], _∷_}
 use lib.ListN.{length}
 use Rattle.lists.specs.Lists.{anyOf, anyBelow}
@@ -10,15 +9,11 @@ use Rattle.answer.specs.declared.Refusal.the-variants.{Size, Length, ZeroKeyVec
 use Rattle.answer.specs.Refusals.{refuse, afterwards, differs}
 use Rattle.sizes.specs.Sizes.{nOutside, tagsOutside}
 use Rattle.sizes.specs.Lengths.{keyLength, idLength, auxiliaryLength}
+use Rattle.vector.specs.Vectors.{allZero}
 use Rattle.tag.specs.KeyVector.{keyVector}
 use Rattle.mask.specs.Masks.{maskRow, auxiliary}
 
--- the first n - 2 elements are zero
-unfoldable pub zeroVector : (n : ℕ) (vector : ℕ → ℕ) → Bool
-zeroVector n vector = not (anyBelow (n - 2) (λ e. differs (vector e) 0))
-
--- refuses 1, 2, 7: one tag whose vector is zero there is enough
-
+-- refuses 1, 2, 7: one tag whose vector is zero in its first n - 2 elements is enough
 unfoldable pub setupAnswer : (tagKey maskKey id : List ℕ) (n tags : ℕ) (out : List ℕ) → Outcome
 setupAnswer tagKey maskKey id n tags out =
     refuse (anyOf (nOutside n ∷ tagsOutside tags ∷ [])) Size
@@ -29,7 +24,7 @@ setupAnswer tagKey maskKey id n tags out =
     ∷ differs (length id) idLength
     ∷ differs (length out) (auxiliaryLength n tags)
     ∷ [])) Length
-    (refuse (anyBelow tags (λ s. zeroVector n (keyVector tagKey id s))) ZeroKeyVector
+    (refuse (anyBelow tags (λ s. allZero (n - 2) (keyVector tagKey id s))) ZeroKeyVector
     Done))
 
 unfoldable pub setupOut : (tagKey maskKey id : List ℕ) (n tags : ℕ) (out : List ℕ) → List ℕ

@@ -2,14 +2,15 @@
 mod rows;
 
 ghost use mathlib.Core.Path.{_≡_};
-ghost use Prim.Native.Nat.{ℕ, _+_, _*_, _<_, _≤_};
+ghost use Prim.Native.Nat.{ℕ, _+_, _-_, _*_, _<_, _≤_};
 ghost use lib.ListN.{length};
 ghost use Rattle.lists.specs.Lists.{at, anyBelow};
 ghost use Rattle.answer.specs.Refusals.{differs};
 ghost use Rattle.sizes.specs.Lengths.{idLength, keyLength, nLeast, nMost, tagsMost, auxiliaryLength};
+ghost use Rattle.vector.specs.Vectors.{allZero};
 ghost use Rattle.tag.specs.KeyVector.{keyVector};
 ghost use Rattle.mask.specs.Masks.{maskRow, auxiliary};
-ghost use Rattle.mask.specs.Setup.{zeroVector, setupAnswer, setupOut};
+ghost use Rattle.mask.specs.Setup.{setupAnswer, setupOut};
 ghost use Rattle.mask.specs.Laws.{MaskSums};
 use answer::Outcome;
 use answer::Refusal;
@@ -42,7 +43,7 @@ fn any_zero_vector(tag_key: &[u8], id: &[u8], n: usize, tags: usize) -> bool
     ensures { λ r.
         let tagKey = now («tag_key» .entry) in
         let id = now (id .entry) in
-        ⌜ r ≡ anyBelow tags (λ s. zeroVector n (keyVector tagKey id s)) ⌝ }
+        ⌜ r ≡ anyBelow tags (λ s. allZero (n - 2) (keyVector tagKey id s)) ⌝ }
 {
     for s in 0..tags {
         if !any_element(tag_key, id, s, n - 2) {

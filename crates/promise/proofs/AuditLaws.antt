@@ -14,11 +14,12 @@ use Rattle.lists.proofs.TabLaws.{order}
 use Rattle.lists.proofs.PutLaws.{length-flat, flat-at}
 use Rattle.lists.proofs.AnyLaws.{any-none}
 use Rattle.answer.specs.declared.Outcome.the-variants.{Done}
+use Rattle.answer.specs.declared.Refusal.the-variants.{ProvesNothing}
 use Rattle.answer.specs.Refusals.{refuse, afterwards}
 use Rattle.field.specs.Field.{plus}
-use Rattle.vector.specs.Vectors.{product}
+use Rattle.vector.specs.Vectors.{product, allZero}
 use Rattle.tag.specs.KeyVector.{withTags, keyVector}
-use Rattle.vector.proofs.VectorLaws.{mixed-mixed, mixed-vectors, mixed-lt, product-same, product-left, product-cut}
+use Rattle.vector.proofs.VectorLaws.{mixed-mixed, mixed-vectors, mixed-lt, product-same, product-left, product-cut, zero-all, zero-not}
 use Rattle.tag.proofs.TagLaws.{tags-combine}
 use Rattle.mask.specs.Masks.{maskRow, maskCoefficient, auxiliary, mask, maskSum}
 use Rattle.sizes.specs.Lengths.{responseLength, blockLength, recordLength, auxiliaryLength}
@@ -27,7 +28,7 @@ use Rattle.mask.proofs.MaskLaws.{length-auxiliary, mask-sum}
 use Rattle.message.proofs.ResponseLaws.{response-length, response-first, response-sum, response-tag, response-data, response-same}
 use Rattle.message.specs.Challenge.{Challenge, challengeOf, malformedChallenge}
 use Rattle.audit.specs.Verdict.{verdictFor, appended, accepts, judgement, verdictOf, namedRow as givenRow}
-use Rattle.audit.specs.declared.Judgement.the-variants.{Accepted, Rejected}
+use Rattle.audit.specs.declared.Judgement.the-variants.{Accepted, Rejected, Refused}
 use Rattle.message.proofs.ChallengeLaws.{in-rule, challenge-back, well-formed, asked-even, asked-rule, asked-bytes}
 use Rattle.audit.proofs.VerdictLaws.{accepts-all, altered}
 use Rattle.archive.specs.Layout.{filledIn}
@@ -37,7 +38,7 @@ use Rattle.sizes.proofs.SizeLaws.{not-sizes-outside}
 use Rattle.archive.proofs.BlockLaws.{coded-row}
 use Rattle.promise.specs.Table.{Table, element}
 use Rattle.promise.specs.Image.{vector, image}
-use Rattle.promise.specs.Demand3.{Given, setting, givenAuxiliary, Honest, message, sent, nodeRows, says, namedRow, namedBlock, expected, AuditHolds, ChangesAddUp}
+use Rattle.promise.specs.Demand3.{Given, setting, givenAuxiliary, Honest, message, sent, nodeRows, says, namedRow, Telling, Silent, namedBlock, expected, AuditHolds, ChangesAddUp}
 use Rattle.promise.proofs.ImageLaws.{Fit, image-sizes, image-id, image-good, image-filled, image-byte, record-mixed}
 
 -- lengths that Setup tested
@@ -184,11 +185,21 @@ module _ (g : Given) (F : Fit (setting g)) (K : Keys g) (t : Table) (h : Honest 
       ∙ ap₂ plus (sym (expected-tag s l))
       (product-cut (n - 2) (blockLength (g .z)) hidden (vector (setting g) s) (omega arith) ∙ total-is s l ∙ sym (expected-sum s l)))
 
-  -- a response of Prove's length and first byte is not refused
-  heard : (response : List ℕ) → length response ≡ responseLength n tags → at response 0 ≡ at (responseHead (h .c .node)) 0
-      → says g t A h response ≡ pick (judged response) Accepted Rejected
+  -- whether Verdict finds that nothing is proved
+  abbrev nothing : Bool
+  nothing = allZero (g .z .m) (givenRow (g .z) (nodeRows g t A h) (h .c))
+
+  telling-is : Telling g t A h → nothing ≡ false
+  telling-is told = zero-not (g .z .m) _ (told .one) (told .one-there) (λ e. told .one-not (sym (row-given (told .one) (told .one-there)) ∙ e))
+
+  silent-is : Silent g t A h → nothing ≡ true
+  silent-is zero = zero-all (g .z .m) _ (λ i l. row-given i l ∙ zero i l)
+
+  -- a response of Prove's length and first byte is refused for nothing else
+  heard : {z : Bool} → nothing ≡ z → (response : List ℕ) → length response ≡ responseLength n tags → at response 0 ≡ at (responseHead (h .c .node)) 0
+      → says g t A h response ≡ pick z (Refused ProvesNothing) (pick (judged response) Accepted Rejected)
   unfolding verdictOf verdictFor refuse anyOf judgement
-  heard response l b =
+  heard found response l b =
       rw (
         challenge-good,
         challenge-is,
@@ -200,6 +211,7 @@ module _ (g : Given) (F : Fit (setting g)) (K : Keys g) (t : Table) (h : Honest 
         lt-leb (g .z .nodes) (h .c .node) (h .node-there),
         any-none count (λ j. leb (g .z .places) (at (h .c .places) j)) (λ j m. lt-leb (g .z .places) _ (h .places-there j m)),
         eq-eqb (at response 0) (at (responseHead (h .c .node)) 0) b,
+        found,
       )
 
   expected-length : length (expected g t A h) ≡ responseLength n tags
@@ -215,14 +227,24 @@ module _ (g : Given) (F : Fit (setting g)) (K : Keys g) (t : Table) (h : Honest 
       record {
         proves = proves;
         sends = sends;
-        accepts = rw sends (heard (expected g t A h) expected-length expected-first ∙ ap (λ (x : Bool). pick x Accepted Rejected) accepted-it);
+        accepts = λ told. rw sends (heard (telling-is told) (expected g t A h) expected-length expected-first ∙ ap (λ (x : Bool). pick x Accepted Rejected) accepted-it);
       }
 
-  pub altered-holds : (other : List ℕ) → length other ≡ length (sent g t A h) → at other 0 ≡ at (sent g t A h) 0
+  sent-length : length (sent g t A h) ≡ responseLength n tags
+  sent-length = ap length sends ∙ expected-length
+
+  sent-first : at (sent g t A h) 0 ≡ at (responseHead (h .c .node)) 0
+  sent-first = ap (λ (r : List ℕ). at r 0) sends ∙ expected-first
+
+  pub unproved-holds : Silent g t A h → (other : List ℕ) → length other ≡ length (sent g t A h) → at other 0 ≡ at (sent g t A h) 0
+      → says g t A h other ≡ Refused ProvesNothing
+  unproved-holds zero other l b = heard (silent-is zero) other (l ∙ sent-length) (b ∙ sent-first)
+
+  pub altered-holds : Telling g t A h → (other : List ℕ) → length other ≡ length (sent g t A h) → at other 0 ≡ at (sent g t A h) 0
       → ((says g t A h other ≡ Accepted) ↔ ChangesAddUp g t A h other) × ((says g t A h other ≡ Rejected) ↔ (¬ ChangesAddUp g t A h other))
-  altered-holds other l b =
+  altered-holds told other l b =
       let w = altered (g .z) (keyVector (g .tagKey) (g .id)) (givenRow (g .z) (nodeRows g t A h) (h .c)) other (sent g t A h) (ap judged sends ∙ accepted-it) in
-      rw (heard other (l ∙ ap length sends ∙ expected-length) (b ∙ ap (λ (r : List ℕ). at r 0) sends ∙ expected-first)) (
+      rw (heard (telling-is told) other (l ∙ sent-length) (b ∙ sent-first)) (
         (λ e. w .0 .0 (is-accepted _ e), λ d. ap (λ (x : Bool). pick x Accepted Rejected) (w .0 .1 d)),
         (λ e. w .1 .0 (is-rejected _ e), λ d. ap (λ (x : Bool). pick x Accepted Rejected) (w .1 .1 d)),
       )

@@ -21,7 +21,7 @@ use Rattle.promise.specs.Demand3.{Given, setting, Admitted, HoldsCoded, 
 use Rattle.promise.proofs.TableLaws.{Fine, AllFine, run-fine}
 use Rattle.promise.proofs.ImageLaws.{Fit, image-mark, image-byte, record-block, record-tag, record-row, opened-is}
 use Rattle.promise.proofs.RunLaws.{runs}
-use Rattle.promise.proofs.AuditLaws.{Keys, audit-holds, altered-holds}
+use Rattle.promise.proofs.AuditLaws.{Keys, audit-holds, altered-holds, unproved-holds}
 use Rattle.promise.proofs.ReadAndInventoryLaws.{inventory, read}
 
 -- ---- what Open and Setup tested
@@ -81,6 +81,7 @@ on-image g calls t fine answers =
       places = coded-back g t;
       audits = audit-holds g (fits g) (keys g) t;
       altered = altered-holds g (fits g) (keys g) t;
+      unproved = unproved-holds g (fits g) (keys g) t;
       read = read (setting g) (fits g) t fine (g .file-size) (g .file-bytes);
     }
 

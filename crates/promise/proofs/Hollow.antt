@@ -8,19 +8,22 @@ use native.Mathlib.Nat.{div-add-mod'}
 use native.Mathlib.Omega.{arith}
 use Rattle.lists.specs.Lists.{at, tab, flat, over, anyOf, anyBelow, howMany}
 use Rattle.answer.specs.declared.Outcome.the-variants.{Done, Refused as RefusedOutcome}
-use Rattle.answer.specs.declared.Refusal.the-variants.{Length, BadArchive, Unreadable, ZeroKeyVector}
+use Rattle.answer.specs.declared.Refusal.the-variants.{Length, BadArchive, Unreadable, ZeroKeyVector, Malformed, ProvesNothing}
 use Rattle.answer.specs.Refusals.{refuse, afterwards, outside}
 use Rattle.field.specs.Field.{sum, modulus, xtime, xtimes, times}
 use Rattle.keystream.specs.ChaCha.{half, quarterOf, setFour, quarter, quadruples, quartersTo, rounds, blockWords, serialised, wordAt, start, blockOf}
 use Rattle.keystream.specs.Draws.{byteAt}
-use Rattle.bits.specs.Fields.{bitOf, bitsOf, widths, number, packed, pack}
-use Rattle.vector.specs.Vectors.{product, mixed}
+use Rattle.bits.specs.Fields.{bitOf, bitsOf, widths, number, packed, pack, bitAt, fieldAt}
+use Rattle.vector.specs.Vectors.{product, mixed, allZero}
 use Rattle.tag.specs.KeyVector.{F1, keyVector}
-use Rattle.mask.specs.Setup.{zeroVector, setupAnswer}
+use Rattle.mask.specs.Setup.{setupAnswer}
 use Rattle.mask.specs.Masks.{F2, maskRow, auxiliary, mask, maskSum}
 use Rattle.message.specs.Response.{responseBytes, dataIn}
-use Rattle.audit.specs.Verdict.{namedRow, appended, fails, accepts}
+use Rattle.message.specs.Challenge.{items, challengeBytes, outOfRule, challengeIn, challengeOf, malformedFor}
+use Rattle.audit.specs.declared.Judgement.the-variants.{Rejected, Refused as RefusedJudgement}
+use Rattle.audit.specs.Verdict.{namedRow, appended, fails, accepts, verdictFor, judgement, verdictOf}
 use Rattle.sizes.specs.Lengths.{recordLength, placeCount, placeNumber}
+use Rattle.sizes.specs.Sizes.{sizesOutside}
 use Rattle.archive.specs.Layout.{sizesOf, markAt, byteIn}
 use Rattle.archive.specs.Blocks.{source, coded}
 use Rattle.archive.specs.Calls.{answerFor, archiveAnswer, archiveAfter}
@@ -34,7 +37,7 @@ use Rattle.promise.specs.Image.{placeRecord}
 use Rattle.promise.specs.Demand3.{setting, Admitted}
 use Rattle.promise.specs.Life as L
 use Rattle.promise.specs.Worked as W
-use Rattle.promise.specs.Hollow.{fresh, firstCall, altered, threeAgree, zeroSecond, Hollow}
+use Rattle.promise.specs.Hollow.{fresh, firstCall, altered, threeAgree, ofZeros, zeroSecond, Hollow}
 use Rattle.promise.proofs.ImageLaws.{image-mark, image-number}
 use Rattle.promise.proofs.DemandLaws.{fits, run-is, demand3}
 use Rattle.promise.proofs.Life.{two-bytes, given, lived}
@@ -64,9 +67,25 @@ three-agree : (threeAgree (altered 0x01 (at (0x04 ∷ 0x00 ∷ 0x00 ∷ []))) �
 unfolding accepts fails anyBelow appended dataIn product sum times xtimes xtime modulus tab
 three-agree = (refl, refl, refl)
 
+-- ---- combined rows that are zero
+
+zero-rows : (ofZeros 0x24 (0x02 ∷ 0x03 ∷ 0x02 ∷ 0x03 ∷ []) (0x05 ∷ 0x05 ∷ []) ≡ RefusedJudgement ProvesNothing)
+    × (ofZeros 0x24 (0x02 ∷ 0x03 ∷ 0x04 ∷ 0x06 ∷ []) (0x02 ∷ 0x01 ∷ []) ≡ RefusedJudgement ProvesNothing)
+    × (ofZeros 0x24 (0x02 ∷ 0x03 ∷ 0x04 ∷ 0x05 ∷ []) (0x00 ∷ 0x00 ∷ []) ≡ RefusedJudgement ProvesNothing)
+    × (ofZeros 0x22 (0x02 ∷ 0x03 ∷ 0x02 ∷ 0x03 ∷ []) (0x05 ∷ 0x05 ∷ []) ≡ RefusedJudgement Malformed)
+unfolding verdictOf verdictFor judgement refuse outside sizesOutside anyOf anyBelow challengeBytes items challengeOf challengeIn malformedFor outOfRule namedRow allZero mixed sum times xtimes xtime modulus tab pack packed bitsOf bitOf widths number fieldAt bitAt
+zero-rows = (refl, refl, refl, refl)
+
+other-rows : (ofZeros 0x24 (0x02 ∷ 0x03 ∷ 0x02 ∷ 0x04 ∷ []) (0x05 ∷ 0x05 ∷ []) ≡ Rejected)
+    × (ofZeros 0x24 (0x02 ∷ 0x03 ∷ 0x04 ∷ 0x03 ∷ []) (0x05 ∷ 0x05 ∷ []) ≡ Rejected) × (ofZeros 0x24 (0x02 ∷ 0x03 ∷ 0x02 ∷ 0x03 ∷ []) (0x05 ∷ 0x04 ∷ []) ≡ Rejected)
+unfolding verdictOf verdictFor judgement refuse outside sizesOutside anyOf anyBelow challengeBytes items challengeOf challengeIn malformedFor outOfRule namedRow allZero mixed sum times xtimes xtime modulus tab pack packed bitsOf bitOf widths number fieldAt bitAt accepts fails appended dataIn product keyVector F1 byteAt half quarterOf setFour quarter quadruples quartersTo rounds blockWords serialised wordAt start blockOf
+other-rows = (refl, refl, refl)
+
+-- ---- a zero key vector
+
 zero-second : (setupAnswer zeroSecond L.maskKey L.id 3 1 (0 ∷ 0 ∷ []) ≡ Done)
     × (setupAnswer zeroSecond L.maskKey L.id 3 2 (0 ∷ 0 ∷ 0 ∷ 0 ∷ []) ≡ RefusedOutcome ZeroKeyVector)
-unfolding setupAnswer zeroVector refuse outside anyOf anyBelow tab keyVector F1 byteAt half quarterOf setFour quarter quadruples quartersTo rounds blockWords serialised wordAt start blockOf
+unfolding setupAnswer allZero refuse outside anyOf anyBelow tab keyVector F1 byteAt half quarterOf setFour quarter quadruples quartersTo rounds blockWords serialised wordAt start blockOf
 zero-second = (refl, refl)
 
 -- ---- its first call
@@ -127,6 +146,13 @@ hollow =
       tag-0-adds-up = three-agree .0;
       tags-1-and-2-add-up = three-agree .1;
       all-add-up = three-agree .2;
+      rows-cancel = zero-rows .0;
+      multiples-cancel = zero-rows .1;
+      no-coefficient = zero-rows .2;
+      first-cancels = other-rows .0;
+      last-cancels = other-rows .1;
+      none-cancels = other-rows .2;
+      nine-first = zero-rows .3;
       vector-0-taken = zero-second .0;
       vector-1-found = zero-second .1;
       accepted = first-answer;

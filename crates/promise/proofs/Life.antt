@@ -5,6 +5,7 @@ use mathlib.Core.Bool.{true}
 use mathlib.Core.List.{List, [], _∷_}
 use native.Mathlib.Omega.{arith}
 use lib.Dec.{lit≤}
+use lib.ListN.{length}
 use borrow.Author.Tests.{lt-leb}
 use Rattle.lists.specs.Lists.{at, tab, flat, over, anyOf, anyBelow, Bytes}
 use Rattle.lists.proofs.TabLaws.{length-tab, tab-at}
@@ -19,11 +20,11 @@ use Rattle.keystream.specs.Draws.{byteAt}
 use Rattle.bits.specs.Fields.{bitOf, bitsOf, widths, number, packed, pack}
 use Rattle.sizes.specs.Sizes.{sizesOutside}
 use Rattle.sizes.specs.Lengths.{responseLength}
-use Rattle.vector.specs.Vectors.{product, mixed}
+use Rattle.vector.specs.Vectors.{product, mixed, allZero}
 use Rattle.tag.specs.KeyVector.{F1, keyVector, withTags}
 use Rattle.tag.specs.Vector.{vectorAnswer, vectorOut}
 use Rattle.mask.specs.Masks.{F2, F3, maskRow, maskCoefficient, auxiliary, mask, maskSum}
-use Rattle.mask.specs.Setup.{zeroVector, setupAnswer, setupOut}
+use Rattle.mask.specs.Setup.{setupAnswer, setupOut}
 use Rattle.message.specs.Response.{responseBytes}
 use Rattle.message.proofs.ResponseLaws.{response-same}
 use Rattle.vector.proofs.VectorLaws.{product-keys}
@@ -33,9 +34,9 @@ use Rattle.archive.specs.Open.{openAnswer}
 use Rattle.archive.specs.Blocks.{source, coded, codedRecord}
 use Rattle.archive.specs.Calls.{answerFor}
 use Rattle.archive.specs.Prove.{responseFor}
-use Rattle.promise.specs.Table.{allEmpty, isFilled, numbered, repairedRow, written, tableAnswers}
+use Rattle.promise.specs.Table.{allEmpty, isFilled, element, numbered, repairedRow, written, tableAnswers}
 use Rattle.promise.specs.Image.{image}
-use Rattle.promise.specs.Demand3.{Given, Admitted, setting, givenAuxiliary, Honest, message, namedBlock, expected, Demand}
+use Rattle.promise.specs.Demand3.{Given, Admitted, setting, givenAuxiliary, Honest, message, Telling, Silent, namedBlock, expected, Demand}
 use Rattle.promise.specs.Life as L
 use Rattle.promise.specs.Life.{Numbers, calls, table, archive, Lived}
 use Rattle.promise.proofs.ImageLaws.{recordOver, image-over}
@@ -54,7 +55,7 @@ abbrev pub SetsUp : Numbers → Type 0
 SetsUp w = setupAnswer L.tagKey L.maskKey L.id 3 (w .tags) (L.auxiliaryLent (w .tags)) ≡ Done
 
 pub sets-up : SetsUp L.one × SetsUp L.three
-unfolding setupAnswer zeroVector refuse outside anyOf anyBelow tab keyVector F1 byteAt half quarterOf setFour quarter quadruples quartersTo rounds blockWords serialised wordAt start blockOf
+unfolding setupAnswer allZero refuse outside anyOf anyBelow tab keyVector F1 byteAt half quarterOf setFour quarter quadruples quartersTo rounds blockWords serialised wordAt start blockOf
 sets-up = (refl, refl)
 
 abbrev Answers : Numbers → Type 0
@@ -66,13 +67,24 @@ table-answers : Answers L.one × Answers L.three
 unfolding answerFor refuse anyOf anyBelow outside afterwards written over
 table-answers = (refl, refl)
 
--- both places of node 2
+-- both places of node 2, and place 1 of node 1
 abbrev Filled : Numbers → Type 0
-Filled w = (isFilled (table (w .tags) 2 0) ≡ true) × (isFilled (table (w .tags) 2 1) ≡ true)
+Filled w = (isFilled (table (w .tags) 2 0) ≡ true) × (isFilled (table (w .tags) 2 1) ≡ true) × (isFilled (table (w .tags) 1 1) ≡ true)
 
-two-filled : Filled L.one × Filled L.three
+all-filled : Filled L.one × Filled L.three
 unfolding answerFor refuse anyOf anyBelow outside afterwards written over
-two-filled = ((refl, refl), (refl, refl))
+all-filled = ((refl, refl, refl), (refl, refl, refl))
+
+-- of the two rows that are combined, one element that is not zero and two that are
+abbrev Rows : Numbers → Type 0
+Rows w =
+    (mixed 2 (at (0x07 ∷ 0xb5 ∷ [])) (λ j. element (table (w .tags) 2 (at (0 ∷ 1 ∷ []) j))) 0 ≡ 0xc8)
+    × (mixed 1 (at (0x01 ∷ [])) (λ j. element (table (w .tags) 1 (at (1 ∷ []) j))) 0 ≡ 0x00)
+    × (mixed 1 (at (0x01 ∷ [])) (λ j. element (table (w .tags) 1 (at (1 ∷ []) j))) 1 ≡ 0x00)
+
+rows : Rows L.one × Rows L.three
+unfolding answerFor refuse anyOf anyBelow outside afterwards written over repairedRow mixed sum times xtimes xtime modulus tab
+rows = ((refl, refl, refl), (refl, refl, refl))
 
 abbrev Vectors : Numbers → Type 0
 Vectors w = flat (w .tags) 5 (λ s. at (vectorOut L.tagKey L.id 3 2 s (tab 5 (λ i. 0)))) ≡ w .vectorBytes
@@ -97,17 +109,28 @@ two-bytes a b p q zero h = p
 two-bytes a b p q (suc zero) h = q
 two-bytes a b p q (suc (suc i)) h = absurd (omega arith)
 
+one-byte : (a : ℕ) → a < 256 → Bytes (a ∷ [])
+one-byte a p zero h = p
+one-byte a p (suc i) h = absurd (omega arith)
+
 two-places : (j : ℕ) → j < 2 → at (0 ∷ 1 ∷ []) j < 2
 two-places zero h = omega arith
 two-places (suc zero) h = omega arith
 two-places (suc (suc j)) h = absurd (omega arith)
 
+one-place : (j : ℕ) → j < 1 → at (1 ∷ []) j < 2
+one-place zero h = omega arith
+one-place (suc j) h = absurd (omega arith)
+
 abbrev asking : Challenge
 asking = record { node = 2; places = 0 ∷ 1 ∷ []; coefficients = 0x07 ∷ 0xb5 ∷ [] }
 
-asked : challengeAnswer asking (tab 5 (λ i. 0)) ≡ Done
+abbrev asking-nothing : Challenge
+asking-nothing = record { node = 1; places = 1 ∷ []; coefficients = 0x01 ∷ [] }
+
+asked : (challengeAnswer asking (tab 5 (λ i. 0)) ≡ Done) × (challengeAnswer asking-nothing (tab 3 (λ i. 0)) ≡ Done)
 unfolding challengeAnswer refuse outOfRule outside anyOf anyBelow tab
-asked = refl
+asked = (refl, refl)
 
 module _ (w : Numbers) (o : Opens w) (u : SetsUp w) where
   abbrev pub lives : Given
@@ -138,32 +161,52 @@ module _ (w : Numbers) (o : Opens w) (u : SetsUp w) where
     ),
   )
 
-  -- ---- the audit
+  -- ---- the audits
 
   both-filled : Filled w → (j : ℕ) → j < 2 → isFilled (table (w .tags) 2 (at (0 ∷ 1 ∷ []) j)) ≡ true
   both-filled f zero h = f .0
   both-filled f (suc zero) h = f .1
   both-filled f (suc (suc j)) h = absurd (omega arith)
 
-  abbrev audited : Filled w → Honest lives (table (w .tags))
-  audited f =
+  one-filled : Filled w → (j : ℕ) → j < 1 → isFilled (table (w .tags) 1 (at (1 ∷ []) j)) ≡ true
+  one-filled f zero h = f .2
+  one-filled f (suc j) h = absurd (omega arith)
+
+  -- by a challenge, with one seed
+  abbrev audit-by : (c : Challenge) (lent : List ℕ) → challengeAnswer c lent ≡ Done → Bytes (c .coefficients) → c .node < 3
+      → ((j : ℕ) → j < length (c .places) → at (c .places) j < 2)
+      → ((j : ℕ) → j < length (c .places) → isFilled (table (w .tags) (c .node) (at (c .places) j)) ≡ true) → Honest lives (table (w .tags))
+  audit-by c lent asked bytes node places filled =
       record {
-        c = asking;
-        lent = tab 5 (λ i. 0);
+        c = c;
+        lent = lent;
         asked = asked;
-        coefficients-bytes = two-bytes 0x07 0xb5 (omega arith) (omega arith);
-        node-there = omega arith;
-        places-there = two-places;
-        places-filled = both-filled f;
+        coefficients-bytes = bytes;
+        node-there = node;
+        places-there = places;
+        places-filled = filled;
         seed = 0 ∷ 20 ∷ 40 ∷ 60 ∷ 80 ∷ 100 ∷ 120 ∷ 140 ∷ 160 ∷ 180 ∷ 200 ∷ [];
         seed-size = refl;
         out = tab (responseLength 3 (w .tags)) (λ i. 0);
         out-size = length-tab (responseLength 3 (w .tags)) (λ i. 0);
       }
 
-  life-message : (f : Filled w) → message lives (table (w .tags)) (archive (w .layout) (w .tags)) (audited f) ≡ 0x14 ∷ 0x40 ∷ 0x1c ∷ 0xda ∷ 0x80 ∷ []
+  abbrev audited : Filled w → Honest lives (table (w .tags))
+  audited f = audit-by asking (tab 5 (λ i. 0)) (asked .0) (two-bytes 0x07 0xb5 (omega arith) (omega arith)) (omega arith) two-places (both-filled f)
+
+  abbrev audited-silent : Filled w → Honest lives (table (w .tags))
+  audited-silent f = audit-by asking-nothing (tab 3 (λ i. 0)) (asked .1) (one-byte 0x01 (omega arith)) (omega arith) one-place (one-filled f)
+
+  silent-row : Rows w → (f : Filled w) → Silent lives (table (w .tags)) (archive (w .layout) (w .tags)) (audited-silent f)
+  silent-row r f zero h = r .1
+  silent-row r f (suc zero) h = r .2
+  silent-row r f (suc (suc i)) h = absurd (omega arith)
+
+  messages : (f : Filled w)
+      → (message lives (table (w .tags)) (archive (w .layout) (w .tags)) (audited f) ≡ 0x14 ∷ 0x40 ∷ 0x1c ∷ 0xda ∷ 0x80 ∷ [])
+      × (message lives (table (w .tags)) (archive (w .layout) (w .tags)) (audited-silent f) ≡ 0x12 ∷ 0x24 ∷ 0x04 ∷ [])
   unfolding challengeOut afterwards challengeAnswer refuse outOfRule outside anyOf anyBelow tab challengeBytes items pack packed bitsOf bitOf widths number
-  life-message f = refl
+  messages f = (refl, refl)
 
   -- the image of the table after the calls, Setup's elements and the response: also computed
   abbrev Image : Type 0
@@ -210,10 +253,12 @@ module _ (w : Numbers) (o : Opens w) (u : SetsUp w) where
           expectedBy : List ℕ → List ℕ
           expectedBy x = responseFor 3 (w .tags) L.id L.maskKey x (audited f .seed) 2 block (λ s. product 5 block (keyVector L.tagKey L.id s))
 
-  life : Answers w → (f : Filled w) → Vectors w → Image → Elements → Expected f → Lived w
-  life answers f vectors image elements response =
+  life : Answers w → (f : Filled w) → Rows w → Vectors w → Image → Elements → Expected f → Lived w
+  life answers f rows vectors image elements response =
       let d : Demand lives (calls (w .tags)) (table (w .tags)) (archive (w .layout) (w .tags)) = demand3 lives (calls (w .tags)) life-admitted in
       let sends = d .audits (audited f) .sends ∙ response in
+      let telling : Telling lives (table (w .tags)) (archive (w .layout) (w .tags)) (audited f) =
+      record { one = 0; one-there = omega arith; one-not = λ e. let x : _≡_ {A = ℕ} 0xc8 0 = sym (rows .0) ∙ e in omega arith } in
       record {
         opens = o;
         sets-up = u;
@@ -224,9 +269,14 @@ module _ (w : Numbers) (o : Opens w) (u : SetsUp w) where
         vectors-are = vectors;
         auxiliary-are = elements;
         audit = audited f;
-        message-is = life-message f;
+        message-is = messages f .0;
         sent-is = sends;
-        accepted = rw (← sends) (d .audits (audited f) .accepts);
+        telling = telling;
+        accepted = rw (← sends) (d .audits (audited f) .accepts telling);
+        silent-audit = audited-silent f;
+        silent-message = messages f .1;
+        silent = silent-row rows f;
+        unproved = d .unproved (audited-silent f) (silent-row rows f) _ refl refl;
       }
 
 abbrev pub given : Given
@@ -238,17 +288,17 @@ unfolding archiveOf tagField packed pack bitsOf bitOf widths number flat tab num
 images-over = (refl, refl)
 
 elements : Elements L.one (opens .0) (sets-up .0) × Elements L.three (opens .1) (sets-up .1)
-unfolding setupOut afterwards setupAnswer zeroVector refuse outside anyOf anyBelow auxiliary maskRow F2 product flat tab keyVector F1 byteAt half quarterOf setFour quarter quadruples quartersTo rounds blockWords serialised wordAt start blockOf sum times xtimes xtime modulus
+unfolding setupOut afterwards setupAnswer allZero refuse outside anyOf anyBelow auxiliary maskRow F2 product flat tab keyVector F1 byteAt half quarterOf setFour quarter quadruples quartersTo rounds blockWords serialised wordAt start blockOf sum times xtimes xtime modulus
 elements = (refl, refl)
 
 -- and so are the responses, over Setup's bytes too
-responses-over : ExpectedOver L.one (opens .0) (sets-up .0) (vectors .0) (lit≤ tt) (two-filled .0)
-    × ExpectedOver L.three (opens .1) (sets-up .1) (vectors .1) (lit≤ tt) (two-filled .1)
+responses-over : ExpectedOver L.one (opens .0) (sets-up .0) (vectors .0) (lit≤ tt) (all-filled .0)
+    × ExpectedOver L.three (opens .1) (sets-up .1) (vectors .1) (lit≤ tt) (all-filled .1)
 unfolding responseFor responseBytes mask maskSum maskCoefficient F3 answerFor written over repairedRow coded source mixed afterwards refuse outside anyOf anyBelow maskRow F2 product tab pack packed bitsOf bitOf widths number byteAt half quarterOf setFour quarter quadruples quartersTo rounds blockWords serialised wordAt start blockOf sum times xtimes xtime modulus
 responses-over = (refl, refl)
 
 pub lived : Lived L.one × Lived L.three
 lived = (
-  life L.one (opens .0) (sets-up .0) (table-answers .0) (two-filled .0) (vectors .0) (image-of L.one (opens .0) (sets-up .0) (vectors .0) (lit≤ tt) (images-over .0)) (elements .0) (expected-of L.one (opens .0) (sets-up .0) (vectors .0) (lit≤ tt) (two-filled .0) (elements .0) (responses-over .0)),
-  life L.three (opens .1) (sets-up .1) (table-answers .1) (two-filled .1) (vectors .1) (image-of L.three (opens .1) (sets-up .1) (vectors .1) (lit≤ tt) (images-over .1)) (elements .1) (expected-of L.three (opens .1) (sets-up .1) (vectors .1) (lit≤ tt) (two-filled .1) (elements .1) (responses-over .1)),
+  life L.one (opens .0) (sets-up .0) (table-answers .0) (all-filled .0) (rows .0) (vectors .0) (image-of L.one (opens .0) (sets-up .0) (vectors .0) (lit≤ tt) (images-over .0)) (elements .0) (expected-of L.one (opens .0) (sets-up .0) (vectors .0) (lit≤ tt) (all-filled .0) (elements .0) (responses-over .0)),
+  life L.three (opens .1) (sets-up .1) (table-answers .1) (all-filled .1) (rows .1) (vectors .1) (image-of L.three (opens .1) (sets-up .1) (vectors .1) (lit≤ tt) (images-over .1)) (elements .1) (expected-of L.three (opens .1) (sets-up .1) (vectors .1) (lit≤ tt) (all-filled .1) (elements .1) (responses-over .1)),
 )

@@ -7,6 +7,7 @@ use mathlib.Core.List.{List, [], _∷_}
 use lib.ListN.{length}
 use Rattle.lists.specs.Lists.{at, tab, flat, Bytes}
 use Rattle.answer.specs.declared.Outcome.the-variants.{Done}
+use Rattle.answer.specs.declared.Refusal.the-variants.{ProvesNothing}
 use Rattle.field.specs.Field.{plus}
 use Rattle.sizes.specs.declared.Sizes.{Sizes}
 use Rattle.vector.specs.Vectors.{product, mixed}
@@ -16,7 +17,7 @@ use Rattle.message.specs.Response.{dataIn, sumIn, tagIn}
 use Rattle.message.specs.Challenge.{Challenge, challengeAnswer, challengeOut}
 use Rattle.audit.specs.Verdict.{verdictOf}
 use Rattle.audit.specs.declared.Judgement.{Judgement}
-use Rattle.audit.specs.declared.Judgement.the-variants.{Accepted, Rejected}
+use Rattle.audit.specs.declared.Judgement.the-variants.{Accepted, Rejected, Refused}
 use Rattle.archive.specs.Layout.{markAt, byteIn}
 use Rattle.archive.specs.Open.{openAnswer, openOut}
 use Rattle.archive.specs.Blocks.{coded}
@@ -101,10 +102,21 @@ module _ (g : Given) (t : Table) (archive : List ℕ) (h : Honest g t) where
   abbrev pub says : List ℕ → Judgement
   says response = verdictOf (g .tagKey) (g .id) (g .z) nodeRows message response
 
-  -- the table's rows of the named places, combined by the challenge; the source blocks combined by that row
+  -- the table's rows of the named places, combined by the challenge
   abbrev pub namedRow : ℕ → ℕ
   namedRow = mixed (length (h .c .places)) (at (h .c .coefficients)) (λ j. element (t (h .c .node) (at (h .c .places) j)))
 
+  -- that row has an element that is not zero
+  pub record Telling : Type 0 where
+    pub one : ℕ
+    pub one-there : one < g .z .m
+    pub one-not : namedRow one ≢ 0
+
+  -- it has none: any box could answer
+  abbrev pub Silent : Type 0
+  Silent = (i : ℕ) → i < g .z .m → namedRow i ≡ 0
+
+  -- the source blocks combined by that row
   abbrev pub namedBlock : ℕ → ℕ
   namedBlock = coded (g .z) (g .file) (g .padding) namedRow
 
@@ -117,7 +129,7 @@ module _ (g : Given) (t : Table) (archive : List ℕ) (h : Honest g t) where
   pub record AuditHolds : Type 0 where
     pub proves : proveAnswer archive (g .maskKey) (givenAuxiliary g) (h .seed) message (h .out) ≡ Done
     pub sends : sent ≡ expected
-    pub accepts : says sent ≡ Accepted
+    pub accepts : Telling → says sent ≡ Accepted
 
   -- a change is the sum of two responses' elements at one position; those of the n data elements, times key vector s, are together those
   -- of tag s and mask sum s
@@ -159,12 +171,17 @@ pub record Demand (g : Given) (calls : List Call) (t : Table) (archive : List �
   -- what stands in each filled place
   pub places : (node place : ℕ) (row : List ℕ) → node < g .z .nodes → place < g .z .places → t node place ≡ filled row
       → HoldsCoded g archive (placeNumber (g .z) node place) row
-  -- an honest audit, with any seed, goes as it should
+  -- an honest audit, with any seed: Prove sends what it should, and is accepted where the combined row tells something
   pub audits : (h : Honest g t) → AuditHolds g t archive h
-  -- another response, of that length and first byte, is accepted if its changes add up, and rejected if they do not
-  pub altered : (h : Honest g t) (other : List ℕ) → length other ≡ length (sent g t archive h) → at other 0 ≡ at (sent g t archive h) 0
+  -- there another response, of that length and first byte, is accepted if its changes add up, and rejected if they do not
+  pub altered : (h : Honest g t) → Telling g t archive h
+      → (other : List ℕ) → length other ≡ length (sent g t archive h) → at other 0 ≡ at (sent g t archive h) 0
       → ((says g t archive h other ≡ Accepted) ↔ ChangesAddUp g t archive h other)
       × ((says g t archive h other ≡ Rejected) ↔ (¬ ChangesAddUp g t archive h other))
+  -- where the combined row is zero, every response of that length and first byte is refused by the number 11, and none accepted
+  pub unproved : (h : Honest g t) → Silent g t archive h
+      → (other : List ℕ) → length other ≡ length (sent g t archive h) → at other 0 ≡ at (sent g t archive h) 0
+      → says g t archive h other ≡ Refused ProvesNothing
   -- Read, lent the file's length, gives back the file, or refuses with 8 if and only if the table's rows leave something open; the
   -- places that it consulted are enough of the table's too
   pub read : (out : List ℕ) (answer : Counted) (file : List ℕ) → length out ≡ fileLength (g .z) → ReadAllows archive out answer file

@@ -8,13 +8,16 @@ use mathlib.Core.List.{List, [], _∷_, _++_}
 use lib.Dec.{eqb}
 use Rattle.lists.specs.Lists.{at, tab, howMany}
 use Rattle.answer.specs.declared.Outcome.the-variants.{Done, Refused as RefusedOutcome}
-use Rattle.answer.specs.declared.Refusal.the-variants.{Unreadable, ZeroKeyVector}
+use Rattle.answer.specs.declared.Refusal.the-variants.{Unreadable, ZeroKeyVector, Malformed, ProvesNothing}
 use Rattle.field.specs.Field.{plus}
 use Rattle.vector.specs.Vectors.{product}
 use Rattle.mask.specs.Masks.{maskRow}
 use Rattle.mask.specs.Setup.{setupAnswer}
 use Rattle.message.specs.Response.{tagIn}
-use Rattle.audit.specs.Verdict.{namedRow, appended, accepts}
+use Rattle.message.specs.Challenge.{challengeFor, challengeBytes}
+use Rattle.audit.specs.declared.Judgement.{Judgement}
+use Rattle.audit.specs.declared.Judgement.the-variants.{Rejected, Refused as RefusedJudgement}
+use Rattle.audit.specs.Verdict.{namedRow, appended, accepts, verdictOf}
 use Rattle.sizes.specs.Lengths.{recordLength, placeNumber, placeCount}
 use Rattle.archive.specs.Layout.{sizesOf, markAt, byteIn}
 use Rattle.archive.specs.Open.{openOut}
@@ -42,6 +45,13 @@ altered d x =
 abbrev pub threeAgree : List ℕ → Bool
 threeAgree = accepts (L.z 3) (λ s e. at (L.three .vectorBytes) (s * 5 + e)) (at (0xc8 ∷ 0xde ∷ []))
 
+-- what Verdict says of a response that is zeros behind its first byte, by the life's key and sizes, two rows and a challenge for both places
+-- of node 2
+abbrev pub ofZeros : (first : ℕ) (rows coefficients : List ℕ) → Judgement
+ofZeros first rows coefficients =
+    verdictOf L.tagKey L.id (L.z 1) rows (challengeBytes (challengeFor 2 (0 ∷ 1 ∷ []) coefficients))
+    (first ∷ tab 16 (λ i. 0))
+
 -- a tag key of which vector 1 alone starts with zero
 abbrev pub zeroSecond : List ℕ
 zeroSecond = tab 30 (λ i. 0) ++ (0x01 ∷ 0x1f ∷ [])
@@ -63,6 +73,16 @@ pub record Hollow : Type 0 where
   pub tag-0-adds-up : threeAgree (altered 0x01 (at (0x04 ∷ 0x00 ∷ 0x00 ∷ []))) ≡ false
   pub tags-1-and-2-add-up : threeAgree (altered 0x01 (at (0x00 ∷ 0x2d ∷ 0x12 ∷ []))) ≡ false
   pub all-add-up : threeAgree (altered 0x01 (at (0x04 ∷ 0x2d ∷ 0x12 ∷ []))) ≡ true
+  -- a Verdict that accepts where any box could answer: equal rows cancel, and so do a row and its double (`unproved`)
+  pub rows-cancel : ofZeros 0x24 (0x02 ∷ 0x03 ∷ 0x02 ∷ 0x03 ∷ []) (0x05 ∷ 0x05 ∷ []) ≡ RefusedJudgement ProvesNothing
+  pub multiples-cancel : ofZeros 0x24 (0x02 ∷ 0x03 ∷ 0x04 ∷ 0x06 ∷ []) (0x02 ∷ 0x01 ∷ []) ≡ RefusedJudgement ProvesNothing
+  pub no-coefficient : ofZeros 0x24 (0x02 ∷ 0x03 ∷ 0x04 ∷ 0x05 ∷ []) (0x00 ∷ 0x00 ∷ []) ≡ RefusedJudgement ProvesNothing
+  -- one that looks at the first or the last element of the combined row alone, or at the response in its place: these are judged
+  pub first-cancels : ofZeros 0x24 (0x02 ∷ 0x03 ∷ 0x02 ∷ 0x04 ∷ []) (0x05 ∷ 0x05 ∷ []) ≡ Rejected
+  pub last-cancels : ofZeros 0x24 (0x02 ∷ 0x03 ∷ 0x04 ∷ 0x03 ∷ []) (0x05 ∷ 0x05 ∷ []) ≡ Rejected
+  pub none-cancels : ofZeros 0x24 (0x02 ∷ 0x03 ∷ 0x02 ∷ 0x03 ∷ []) (0x05 ∷ 0x04 ∷ []) ≡ Rejected
+  -- one that says so before it looks at the response's first byte
+  pub nine-first : ofZeros 0x22 (0x02 ∷ 0x03 ∷ 0x02 ∷ 0x03 ∷ []) (0x05 ∷ 0x05 ∷ []) ≡ RefusedJudgement Malformed
   -- a Setup that looks at vector 0: one tag is accepted, two are refused for vector 1
   pub vector-0-taken : setupAnswer zeroSecond L.maskKey L.id 3 1 (0 ∷ 0 ∷ []) ≡ Done
   pub vector-1-found : setupAnswer zeroSecond L.maskKey L.id 3 2 (0 ∷ 0 ∷ 0 ∷ 0 ∷ []) ≡ RefusedOutcome ZeroKeyVector

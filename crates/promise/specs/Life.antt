@@ -1,20 +1,21 @@
 -- A life in numbers, lived twice, in layout 1 and in layout 2 with three tags: a concrete archive, keys and a list of calls that meet every
--- premise of demand 3, with accepted Encodes, an accepted Repair, refused calls that carry other data, and an honest audit.
+-- premise of demand 3, with accepted Encodes, an accepted Repair, refused calls that carry other data, and two honest audits, one of which
+-- proves nothing.
 use Prim.Native.Nat.{ℕ, _*_}
 use mathlib.Core.Path.{_≡_, refl}
 use mathlib.Core.List.{List, [], _∷_}
 use Rattle.lists.specs.Lists.{at, tab, flat, Bytes}
 use Rattle.answer.specs.declared.Outcome.the-variants.{Done, Refused}
-use Rattle.answer.specs.declared.Refusal.the-variants.{Length, NoSuchPlace, PlaceEmpty, PlaceFilled}
+use Rattle.answer.specs.declared.Refusal.the-variants.{Length, NoSuchPlace, PlaceEmpty, PlaceFilled, ProvesNothing}
 use Rattle.sizes.specs.declared.Sizes.{Sizes}
 use Rattle.sizes.specs.Lengths.{recordLength, archiveLength, auxiliaryLength}
 use Rattle.tag.specs.Vector.{vectorOut}
 use Rattle.mask.specs.Setup.{setupAnswer}
-use Rattle.audit.specs.declared.Judgement.the-variants.{Accepted}
+use Rattle.audit.specs.declared.Judgement.the-variants.{Accepted, Refused as RefusedJudgement}
 use Rattle.archive.specs.Open.{openAnswer, openOut}
 use Rattle.archive.specs.Calls.{Call, encode, lose, repair, archiveAnswers, archiveRun}
 use Rattle.promise.specs.Table.{Table, allEmpty, tableRun}
-use Rattle.promise.specs.Demand3.{Given, givenAuxiliary, Admitted, Honest, message, sent, says}
+use Rattle.promise.specs.Demand3.{Given, givenAuxiliary, Admitted, Honest, message, sent, says, Telling, Silent}
 
 abbrev pub z : (tags : ℕ) → Sizes
 z tags = record { n = 3; m = 2; places = 2; nodes = 3; tags = tags }
@@ -156,5 +157,14 @@ pub record Lived (w : Numbers) : Type 0 where
       ≡ 0x14 ∷ 0x40 ∷ 0x1c ∷ 0xda ∷ 0x80 ∷ []
   pub sent-is : sent (given (w .layout) (w .tags) opens sets-up file-bytes) (table (w .tags)) (archive (w .layout) (w .tags)) audit
       ≡ w .responseBytes
+  pub telling : Telling (given (w .layout) (w .tags) opens sets-up file-bytes) (table (w .tags)) (archive (w .layout) (w .tags)) audit
   pub accepted : says (given (w .layout) (w .tags) opens sets-up file-bytes) (table (w .tags)) (archive (w .layout) (w .tags)) audit
       (w .responseBytes) ≡ Accepted
+  -- node 1, place 1, which holds the row 00 00, coefficient 01
+  pub silent-audit : Honest (given (w .layout) (w .tags) opens sets-up file-bytes) (table (w .tags))
+  pub silent-message : message (given (w .layout) (w .tags) opens sets-up file-bytes) (table (w .tags)) (archive (w .layout) (w .tags))
+      silent-audit ≡ 0x12 ∷ 0x24 ∷ 0x04 ∷ []
+  pub silent : Silent (given (w .layout) (w .tags) opens sets-up file-bytes) (table (w .tags)) (archive (w .layout) (w .tags)) silent-audit
+  pub unproved : says (given (w .layout) (w .tags) opens sets-up file-bytes) (table (w .tags)) (archive (w .layout) (w .tags)) silent-audit
+      (sent (given (w .layout) (w .tags) opens sets-up file-bytes) (table (w .tags)) (archive (w .layout) (w .tags)) silent-audit)
+      ≡ RefusedJudgement ProvesNothing

@@ -77,7 +77,7 @@ fn challenge_refused() {
 }
 
 // Verdict with the lives' key, id and sizes n=3, m=2, M=2, N=3.
-fn judge(label: &[u8], expected: u64, rows: &[u8], tags: usize, response: &[u8]) {
+fn judge(label: &[u8], expected: u64, rows: &[u8], tags: usize, message: &[u8], response: &[u8]) {
     let judgement = audit::verdict(
         &counting_key(0),
         &ID,
@@ -87,7 +87,7 @@ fn judge(label: &[u8], expected: u64, rows: &[u8], tags: usize, response: &[u8])
         3,
         tags,
         rows,
-        &CHALLENGE,
+        message,
         response,
     );
     cases::number(label, expected, audit::number(judgement) as u64);
@@ -97,7 +97,7 @@ fn judge(label: &[u8], expected: u64, rows: &[u8], tags: usize, response: &[u8])
 fn judged(label: &[u8], expected: u64, rows: &[u8], at: usize, b: u8) {
     let mut response = RESPONSE;
     response[at % 17] = b;
-    judge(label, expected, rows, 1, &response);
+    judge(label, expected, rows, 1, &CHALLENGE, &response);
 }
 
 fn verdicts() {
@@ -117,7 +117,7 @@ fn verdicts() {
 }
 
 fn judged_of_three(label: &[u8], expected: u64, response: &[u8]) {
-    judge(label, expected, &ROWS, 3, response);
+    judge(label, expected, &ROWS, 3, &CHALLENGE, response);
 }
 
 // A masked byte changes by 01, so each equation by the first element of its key vector: 04, 2d, 12. All of them have to hold.
@@ -177,19 +177,7 @@ fn sizes() {
 }
 
 fn asked(label: &[u8], expected: u64, message: &[u8]) {
-    let judgement = audit::verdict(
-        &counting_key(0),
-        &ID,
-        3,
-        2,
-        2,
-        3,
-        1,
-        &ROWS,
-        message,
-        &RESPONSE,
-    );
-    cases::number(label, expected, audit::number(judgement) as u64);
+    judge(label, expected, &ROWS, 1, message, &RESPONSE);
 }
 
 fn messages() {
@@ -223,6 +211,126 @@ fn messages() {
     asked(b"Verdict, challenge to place 2", 4, &[0x14, 0x28, 0x04]);
 }
 
+// By two rows, on a response that is zeros behind its first byte, as any box can make it.
+fn of_zeros(label: &[u8], expected: u64, rows: &[u8], message: &[u8], first: u8) {
+    let mut response = [0u8; 17];
+    response[0] = first;
+    judge(label, expected, rows, 1, message, &response);
+}
+
+// Both places, coefficients 05 05, 05 04, 02 01 and 00 00; place 1 alone, coefficient 01.
+const EQUAL: [u8; 5] = [0x14, 0x40, 0x14, 0x82, 0x80];
+
+const UNEQUAL: [u8; 5] = [0x14, 0x40, 0x14, 0x82, 0x00];
+
+const DOUBLED: [u8; 5] = [0x14, 0x40, 0x08, 0x80, 0x80];
+
+const ZEROS: [u8; 5] = [0x14, 0x40, 0x00, 0x80, 0x00];
+
+const SECOND: [u8; 3] = [0x14, 0x24, 0x04];
+
+// Combined rows that are zero.
+fn proving_nothing() {
+    of_zeros(
+        b"Verdict, equal rows cancel",
+        11,
+        &[2, 3, 2, 3],
+        &EQUAL,
+        0x24,
+    );
+    of_zeros(
+        b"Verdict, a row and its double cancel",
+        11,
+        &[2, 3, 4, 6],
+        &DOUBLED,
+        0x24,
+    );
+    of_zeros(b"Verdict, coefficients 00", 11, &[2, 3, 4, 5], &ZEROS, 0x24);
+    of_zeros(
+        b"Verdict, a zero row named",
+        11,
+        &[2, 3, 0, 0],
+        &SECOND,
+        0x24,
+    );
+    judge(
+        b"Verdict, coefficients 00, any response",
+        11,
+        &ROWS,
+        1,
+        &ZEROS,
+        &RESPONSE,
+    );
+    judge(
+        b"Verdict, L=3, equal rows cancel",
+        11,
+        &[2, 3, 2, 3],
+        3,
+        &EQUAL,
+        &RESPONSE_OF_THREE,
+    );
+}
+
+// Rows that are judged, and refusals that come first.
+fn proving_something() {
+    of_zeros(
+        b"Verdict, equal rows do not cancel",
+        255,
+        &[2, 3, 2, 3],
+        &UNEQUAL,
+        0x24,
+    );
+    of_zeros(
+        b"Verdict, first elements cancel",
+        255,
+        &[2, 3, 2, 4],
+        &EQUAL,
+        0x24,
+    );
+    of_zeros(
+        b"Verdict, last elements cancel",
+        255,
+        &[2, 3, 4, 3],
+        &EQUAL,
+        0x24,
+    );
+    of_zeros(
+        b"Verdict, a zero row not named",
+        255,
+        &[0, 0, 2, 3],
+        &SECOND,
+        0x24,
+    );
+    of_zeros(
+        b"Verdict, zero row, response of node 1",
+        9,
+        &[2, 3, 2, 3],
+        &EQUAL,
+        0x22,
+    );
+    of_zeros(
+        b"Verdict, zero row, place 2",
+        4,
+        &[0, 0, 0, 0],
+        &[0x14, 0x28, 0x04],
+        0x24,
+    );
+    of_zeros(
+        b"Verdict, zero row, rows of 3 bytes",
+        2,
+        &[0, 0, 0],
+        &EQUAL,
+        0x24,
+    );
+    of_zeros(
+        b"Verdict, zero row, no challenge",
+        9,
+        &[0, 0, 0, 0],
+        &[],
+        0x24,
+    );
+}
+
 pub fn run() {
     challenge_worked();
     challenge_of_one();
@@ -231,4 +339,6 @@ pub fn run() {
     verdicts_of_three();
     sizes();
     messages();
+    proving_nothing();
+    proving_something();
 }

@@ -1,15 +1,18 @@
 -- Combinations are linear in their coefficients, products in both vectors. Assumes nothing.
 use Prim.Native.Nat.{ℕ, _+_, _-_, _<_, _≤_}
 use mathlib.Core.Path.{_≡_, sym, ap, _∙_}
+use mathlib.Core.Bool.{true, false, not}
+use mathlib.Core.Logic.{_≢_}
 use native.Mathlib.Omega.{arith}
-use lib.Dec.{ltb}
+use lib.Dec.{eqb, ltb}
 use lib.Bits.{xor-zero-r}
-use borrow.Author.Tests.{lt-ltb, le-ltb}
+use borrow.Author.Tests.{lt-ltb, le-ltb, eq-eqb, ne-eqb}
 use Rattle.lists.specs.Lists.{pick}
+use Rattle.lists.proofs.AnyLaws.{any-same, any-none, any-some}
 use Rattle.field.specs.Field.{plus, sum, times}
 use Rattle.field.proofs.SumLaws.{sum-same, sum-zero, sum-swap, sum-split, sum-plus, sum-lt}
 use Rattle.field.proofs.TimesLaws.{times-assoc, times-xor-left, times-xor-right, zero-times, times-lt, times-sum, sum-times}
-use Rattle.vector.specs.Vectors.{product, mixed}
+use Rattle.vector.specs.Vectors.{product, mixed, allZero}
 
 -- ---- combinations
 
@@ -91,3 +94,17 @@ product-cut a len u k h =
     sum-zero (len - a) (λ i. f (a + i)) (λ i l. rw (le-ltb (a + i) a (omega arith)) (zero-times (k (a + i)))) in
     ap (λ (x : ℕ). sum x f) q ∙ sum-split a (len - a) f ∙ ap (plus (sum a f)) past ∙ xor-zero-r (sum a f)
     ∙ sum-same a f _ (λ i l. rw (lt-ltb i a l))
+
+-- ---- elements that are zero
+
+pub zero-same : (len : ℕ) (u v : ℕ → ℕ) → ((e : ℕ) → e < len → u e ≡ v e) → allZero len u ≡ allZero len v
+unfolding allZero
+zero-same len u v h = ap not (any-same len _ _ (λ e l. ap (λ (x : ℕ). not (eqb x 0)) (h e l)))
+
+pub zero-all : (len : ℕ) (v : ℕ → ℕ) → ((e : ℕ) → e < len → v e ≡ 0) → allZero len v ≡ true
+unfolding allZero
+zero-all len v h = ap not (any-none len _ (λ e l. ap not (eq-eqb (v e) 0 (h e l))))
+
+pub zero-not : (len : ℕ) (v : ℕ → ℕ) (e : ℕ) → e < len → v e ≢ 0 → allZero len v ≡ false
+unfolding allZero
+zero-not len v e l h = ap not (any-some len _ e l (ap not (ne-eqb (v e) 0 h)))

@@ -5,13 +5,13 @@ use mathlib.Core.Path.{_≡_, sym, ap, _∙_}
 use mathlib.Core.Bool.{false, not}
 use native.Mathlib.Omega.{arith}
 use Rattle.lists.proofs.AnyLaws.{any-some, any-none}
+use Rattle.vector.specs.Vectors.{allZero}
 use Rattle.tag.specs.KeyVector.{keyVector}
-use Rattle.mask.specs.Setup.{zeroVector}
 use Rattle.mask.proofs.any_zero_vector.Statement.{statement}
 use Rattle.mask.proofs.any_zero_vector.Tie as tie
 
 abbrev Inv-loop : tie.InvT-loop
-Inv-loop tag-key id n tags s₀ s = (s ≤ tags) × ((k : ℕ) → k < s → zeroVector n (keyVector tag-key id k) ≡ false)
+Inv-loop tag-key id n tags s₀ s = (s ≤ tags) × ((k : ℕ) → k < s → allZero (n - 2) (keyVector tag-key id k) ≡ false)
 
 abbrev μ-loop : tie.MeasureT-loop
 μ-loop tag-key id n tags s₀ s = tags - s
@@ -26,13 +26,13 @@ any-element-requires : tie.Need-any-element-requires Inv-loop μ-loop
 any-element-requires c κs = let p = c .before .before .before .before .pre in (p .0, p .1, omega arith)
 
 returns : tie.Need-returns Inv-loop μ-loop
-unfolding zeroVector
+unfolding allZero
 returns c =
     let l = c .before .before .before .loop in
     sym (any-some _ _ (l .s) (omega arith) (ap not (sym (c .before .any-element .ensures)) ∙ c .if1 .taken))
 
 loop-again : tie.Need-loop-again Inv-loop μ-loop
-unfolding zeroVector
+unfolding allZero
 loop-again c =
     let l = c .before .before .before .loop in
     (omega arith, below-more _ _ (l .inv .1) (ap not (sym (c .before .any-element .ensures)) ∙ c .if1 .left))
