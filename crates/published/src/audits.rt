@@ -8,6 +8,17 @@ use cases::counting_key;
 // The rows that the table has for node 2.
 const ROWS: [u8; 4] = [0xf3, 0xfe, 0x72, 0xfb];
 
+// Challenges to node 2: both places with the coefficients 05 05, 05 04, 02 01 and 00 00; place 1 alone, with 01.
+const EQUAL: [u8; 5] = [0x14, 0x40, 0x14, 0x82, 0x80];
+
+const UNEQUAL: [u8; 5] = [0x14, 0x40, 0x14, 0x82, 0x00];
+
+const DOUBLED: [u8; 5] = [0x14, 0x40, 0x08, 0x80, 0x80];
+
+const ZEROS: [u8; 5] = [0x14, 0x40, 0x00, 0x80, 0x00];
+
+const SECOND: [u8; 3] = [0x14, 0x24, 0x04];
+
 fn challenge_worked() {
     let mut message = [0u8; 5];
     let answer = answer::number(message::challenge(2, &[0, 1], &[0x07, 0xb5], &mut message));
@@ -211,56 +222,24 @@ fn messages() {
     asked(b"Verdict, challenge to place 2", 4, &[0x14, 0x28, 0x04]);
 }
 
-// By two rows, on a response that is zeros behind its first byte, as any box can make it.
-fn of_zeros(label: &[u8], expected: u64, rows: &[u8], message: &[u8], first: u8) {
+// By two rows, on a response of node 2 that is zeros behind its first byte, as any box can make it.
+fn of_zeros(label: &[u8], expected: u64, rows: &[u8], message: &[u8]) {
     let mut response = [0u8; 17];
-    response[0] = first;
+    response[0] = 0x24;
     judge(label, expected, rows, 1, message, &response);
 }
 
-// Both places, coefficients 05 05, 05 04, 02 01 and 00 00; place 1 alone, coefficient 01.
-const EQUAL: [u8; 5] = [0x14, 0x40, 0x14, 0x82, 0x80];
-
-const UNEQUAL: [u8; 5] = [0x14, 0x40, 0x14, 0x82, 0x00];
-
-const DOUBLED: [u8; 5] = [0x14, 0x40, 0x08, 0x80, 0x80];
-
-const ZEROS: [u8; 5] = [0x14, 0x40, 0x00, 0x80, 0x00];
-
-const SECOND: [u8; 3] = [0x14, 0x24, 0x04];
-
-// Combined rows that are zero.
-fn proving_nothing() {
-    of_zeros(
-        b"Verdict, equal rows cancel",
-        11,
-        &[2, 3, 2, 3],
-        &EQUAL,
-        0x24,
-    );
-    of_zeros(
-        b"Verdict, a row and its double cancel",
-        11,
-        &[2, 3, 4, 6],
-        &DOUBLED,
-        0x24,
-    );
-    of_zeros(b"Verdict, coefficients 00", 11, &[2, 3, 4, 5], &ZEROS, 0x24);
-    of_zeros(
-        b"Verdict, a zero row named",
-        11,
-        &[2, 3, 0, 0],
-        &SECOND,
-        0x24,
-    );
-    judge(
-        b"Verdict, coefficients 00, any response",
-        11,
-        &ROWS,
-        1,
-        &ZEROS,
-        &RESPONSE,
-    );
+// Combined rows that are zero, and rows of which a part is.
+fn zero_rows() {
+    of_zeros(b"Verdict, equal rows cancel", 11, &[2, 3, 2, 3], &EQUAL);
+    of_zeros(b"Verdict, doubles cancel", 11, &[2, 3, 4, 6], &DOUBLED);
+    of_zeros(b"Verdict, coefficients 00", 11, &[2, 3, 4, 5], &ZEROS);
+    of_zeros(b"Verdict, zero row named", 11, &[2, 3, 0, 0], &SECOND);
+    of_zeros(b"Verdict, zero row not named", 255, &[0, 0, 2, 3], &SECOND);
+    of_zeros(b"Verdict, no row cancels", 255, &[2, 3, 2, 3], &UNEQUAL);
+    of_zeros(b"Verdict, element 0 cancels", 255, &[2, 3, 2, 4], &EQUAL);
+    of_zeros(b"Verdict, element 1 cancels", 255, &[2, 3, 4, 3], &EQUAL);
+    asked(b"Verdict, coefficients 00, any response", 11, &ZEROS);
     judge(
         b"Verdict, L=3, equal rows cancel",
         11,
@@ -271,64 +250,14 @@ fn proving_nothing() {
     );
 }
 
-// Rows that are judged, and refusals that come first.
-fn proving_something() {
-    of_zeros(
-        b"Verdict, equal rows do not cancel",
-        255,
-        &[2, 3, 2, 3],
-        &UNEQUAL,
-        0x24,
-    );
-    of_zeros(
-        b"Verdict, first elements cancel",
-        255,
-        &[2, 3, 2, 4],
-        &EQUAL,
-        0x24,
-    );
-    of_zeros(
-        b"Verdict, last elements cancel",
-        255,
-        &[2, 3, 4, 3],
-        &EQUAL,
-        0x24,
-    );
-    of_zeros(
-        b"Verdict, a zero row not named",
-        255,
-        &[0, 0, 2, 3],
-        &SECOND,
-        0x24,
-    );
-    of_zeros(
-        b"Verdict, zero row, response of node 1",
-        9,
-        &[2, 3, 2, 3],
-        &EQUAL,
-        0x22,
-    );
-    of_zeros(
-        b"Verdict, zero row, place 2",
-        4,
-        &[0, 0, 0, 0],
-        &[0x14, 0x28, 0x04],
-        0x24,
-    );
-    of_zeros(
-        b"Verdict, zero row, rows of 3 bytes",
-        2,
-        &[0, 0, 0],
-        &EQUAL,
-        0x24,
-    );
-    of_zeros(
-        b"Verdict, zero row, no challenge",
-        9,
-        &[0, 0, 0, 0],
-        &[],
-        0x24,
-    );
+// What is refused before a zero row.
+fn before_zero_rows() {
+    let zeros = [0u8; 4];
+    of_zeros(b"Verdict, zeros, no challenge", 9, &zeros, &[]);
+    of_zeros(b"Verdict, zeros, rows of 3 bytes", 2, &[0u8; 3], &EQUAL);
+    of_zeros(b"Verdict, zeros, place 2", 4, &zeros, &[0x14, 0x28, 0x04]);
+    judged(b"Verdict, zeros, response of node 1", 9, &zeros, 0, 0x22);
+    judged(b"Verdict, zeros", 11, &zeros, 0, 0x24);
 }
 
 pub fn run() {
@@ -339,6 +268,6 @@ pub fn run() {
     verdicts_of_three();
     sizes();
     messages();
-    proving_nothing();
-    proving_something();
+    zero_rows();
+    before_zero_rows();
 }
