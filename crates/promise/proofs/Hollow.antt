@@ -40,7 +40,7 @@ use Rattle.promise.specs.Worked as W
 use Rattle.promise.specs.Hollow.{fresh, firstCall, altered, threeAgree, ofZeros, zeroSecond, Hollow}
 use Rattle.promise.proofs.ImageLaws.{image-mark, image-number}
 use Rattle.promise.proofs.DemandLaws.{fits, run-is, demand3}
-use Rattle.promise.proofs.Life.{two-bytes, given, lived}
+use Rattle.promise.proofs.Life.{bytes-each, given, lived}
 
 -- ---- the life in numbers
 
@@ -91,7 +91,7 @@ zero-second = (refl, refl)
 -- ---- its first call
 
 one-call : Admitted given allEmpty (firstCall ∷ [])
-one-call = (λ e. (refl, refl, refl, two-bytes 0x01 0x00 (omega arith) (omega arith)), tt)
+one-call = (λ e. (refl, refl, refl, bytes-each (0x01 ∷ 0x00 ∷ []) (omega arith, (omega arith, tt))), tt)
 
 abbrev after-one : Table
 after-one = tableRun (L.z 1) allEmpty (firstCall ∷ [])

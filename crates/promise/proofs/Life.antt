@@ -67,13 +67,29 @@ table-answers : Answers L.one × Answers L.three
 unfolding answerFor refuse anyOf anyBelow outside afterwards written over
 table-answers = (refl, refl)
 
+-- what holds of the elements of a list, one by one, holds at each index
+abbrev pub Each : (ℕ → Type 0) → List ℕ → Type 0
+Each P [] = Unit {0}
+Each P (x ∷ xs) = P x × Each P xs
+
+each : (P : ℕ → Type 0) (xs : List ℕ) → Each P xs → (i : ℕ) → i < length xs → P (at xs i)
+each P [] h i l = absurd (omega arith)
+each P (x ∷ xs) h zero l = h .0
+each P (x ∷ xs) h (suc i) l = each P xs (h .1) i (omega arith)
+
+pub bytes-each : (xs : List ℕ) → Each (λ x. x < 256) xs → Bytes xs
+bytes-each = each (λ x. x < 256)
+
 -- both places of node 2, and place 1 of node 1
+abbrev AllFilled : ℕ → ℕ → List ℕ → Type 0
+AllFilled tags node = Each (λ place. isFilled (table tags node place) ≡ true)
+
 abbrev Filled : Numbers → Type 0
-Filled w = (isFilled (table (w .tags) 2 0) ≡ true) × (isFilled (table (w .tags) 2 1) ≡ true) × (isFilled (table (w .tags) 1 1) ≡ true)
+Filled w = AllFilled (w .tags) 2 (0 ∷ 1 ∷ []) × AllFilled (w .tags) 1 (1 ∷ [])
 
 all-filled : Filled L.one × Filled L.three
 unfolding answerFor refuse anyOf anyBelow outside afterwards written over
-all-filled = ((refl, refl, refl), (refl, refl, refl))
+all-filled = (((refl, (refl, tt)), (refl, tt)), ((refl, (refl, tt)), (refl, tt)))
 
 -- of the two rows that are combined, one element that is not zero and two that are
 abbrev Rows : Numbers → Type 0
@@ -104,24 +120,6 @@ vector-element s e h he = ap (λ (x : List ℕ). at x e) (after-done _ _ (vector
 
 -- ---- the premises
 
-pub two-bytes : (a b : ℕ) → a < 256 → b < 256 → Bytes (a ∷ b ∷ [])
-two-bytes a b p q zero h = p
-two-bytes a b p q (suc zero) h = q
-two-bytes a b p q (suc (suc i)) h = absurd (omega arith)
-
-one-byte : (a : ℕ) → a < 256 → Bytes (a ∷ [])
-one-byte a p zero h = p
-one-byte a p (suc i) h = absurd (omega arith)
-
-two-places : (j : ℕ) → j < 2 → at (0 ∷ 1 ∷ []) j < 2
-two-places zero h = omega arith
-two-places (suc zero) h = omega arith
-two-places (suc (suc j)) h = absurd (omega arith)
-
-one-place : (j : ℕ) → j < 1 → at (1 ∷ []) j < 2
-one-place zero h = omega arith
-one-place (suc j) h = absurd (omega arith)
-
 abbrev asking : Challenge
 asking = record { node = 2; places = 0 ∷ 1 ∷ []; coefficients = 0x07 ∷ 0xb5 ∷ [] }
 
@@ -134,24 +132,24 @@ asked = (refl, refl)
 
 module _ (w : Numbers) (o : Opens w) (u : SetsUp w) where
   abbrev pub lives : Given
-  lives = L.given (w .layout) (w .tags) o u (two-bytes 0x57 0x01 (omega arith) (omega arith))
+  lives = L.given (w .layout) (w .tags) o u (bytes-each (0x57 ∷ 0x01 ∷ []) (omega arith, (omega arith, tt)))
 
   life-admitted : Admitted lives allEmpty (calls (w .tags))
   unfolding answerFor refuse anyOf anyBelow outside afterwards written over
   life-admitted = (
-    λ e. (refl, refl, refl, two-bytes 0x01 0x00 (omega arith) (omega arith)),
+    λ e. (refl, refl, refl, bytes-each (0x01 ∷ 0x00 ∷ []) (omega arith, (omega arith, tt))),
     (
       λ e. let x : _≡_ {A = ℕ} 0 1 = cc in absurd (omega arith),
       (
-        λ e. (refl, refl, refl, two-bytes 0x02 0x03 (omega arith) (omega arith)),
+        λ e. (refl, refl, refl, bytes-each (0x02 ∷ 0x03 ∷ []) (omega arith, (omega arith, tt))),
         (
           λ e. let x : _≡_ {A = ℕ} 0 1 = cc in absurd (omega arith),
           (
-            λ e. (refl, refl, refl, two-bytes 0x53 0xca (omega arith) (omega arith)),
+            λ e. (refl, refl, refl, bytes-each (0x53 ∷ 0xca ∷ []) (omega arith, (omega arith, tt))),
             (
               λ e. tt,
               (
-                λ e. (refl, refl, refl, two-bytes 0x00 0x00 (omega arith) (omega arith)),
+                λ e. (refl, refl, refl, bytes-each (0x00 ∷ 0x00 ∷ []) (omega arith, (omega arith, tt))),
                 (λ e. tt, (λ e. tt, (λ e. tt, tt))),
               ),
             ),
@@ -163,28 +161,18 @@ module _ (w : Numbers) (o : Opens w) (u : SetsUp w) where
 
   -- ---- the audits
 
-  both-filled : Filled w → (j : ℕ) → j < 2 → isFilled (table (w .tags) 2 (at (0 ∷ 1 ∷ []) j)) ≡ true
-  both-filled f zero h = f .0
-  both-filled f (suc zero) h = f .1
-  both-filled f (suc (suc j)) h = absurd (omega arith)
-
-  one-filled : Filled w → (j : ℕ) → j < 1 → isFilled (table (w .tags) 1 (at (1 ∷ []) j)) ≡ true
-  one-filled f zero h = f .2
-  one-filled f (suc j) h = absurd (omega arith)
-
   -- by a challenge, with one seed
-  abbrev audit-by : (c : Challenge) (lent : List ℕ) → challengeAnswer c lent ≡ Done → Bytes (c .coefficients) → c .node < 3
-      → ((j : ℕ) → j < length (c .places) → at (c .places) j < 2)
-      → ((j : ℕ) → j < length (c .places) → isFilled (table (w .tags) (c .node) (at (c .places) j)) ≡ true) → Honest lives (table (w .tags))
+  abbrev audit-by : (c : Challenge) (lent : List ℕ) → challengeAnswer c lent ≡ Done → Each (λ x. x < 256) (c .coefficients) → c .node < 3
+      → Each (λ x. x < 2) (c .places) → AllFilled (w .tags) (c .node) (c .places) → Honest lives (table (w .tags))
   audit-by c lent asked bytes node places filled =
       record {
         c = c;
         lent = lent;
         asked = asked;
-        coefficients-bytes = bytes;
+        coefficients-bytes = bytes-each (c .coefficients) bytes;
         node-there = node;
-        places-there = places;
-        places-filled = filled;
+        places-there = each (λ x. x < 2) (c .places) places;
+        places-filled = each (λ place. isFilled (table (w .tags) (c .node) place) ≡ true) (c .places) filled;
         seed = 0 ∷ 20 ∷ 40 ∷ 60 ∷ 80 ∷ 100 ∷ 120 ∷ 140 ∷ 160 ∷ 180 ∷ 200 ∷ [];
         seed-size = refl;
         out = tab (responseLength 3 (w .tags)) (λ i. 0);
@@ -192,10 +180,10 @@ module _ (w : Numbers) (o : Opens w) (u : SetsUp w) where
       }
 
   abbrev audited : Filled w → Honest lives (table (w .tags))
-  audited f = audit-by asking (tab 5 (λ i. 0)) (asked .0) (two-bytes 0x07 0xb5 (omega arith) (omega arith)) (omega arith) two-places (both-filled f)
+  audited f = audit-by asking (tab 5 (λ i. 0)) (asked .0) (omega arith, (omega arith, tt)) (omega arith) (omega arith, (omega arith, tt)) (f .0)
 
   abbrev audited-silent : Filled w → Honest lives (table (w .tags))
-  audited-silent f = audit-by asking-nothing (tab 3 (λ i. 0)) (asked .1) (one-byte 0x01 (omega arith)) (omega arith) one-place (one-filled f)
+  audited-silent f = audit-by asking-nothing (tab 3 (λ i. 0)) (asked .1) (omega arith, tt) (omega arith) (omega arith, tt) (f .1)
 
   silent-row : Rows w → (f : Filled w) → Silent lives (table (w .tags)) (archive (w .layout) (w .tags)) (audited-silent f)
   silent-row r f zero h = r .1
@@ -262,7 +250,7 @@ module _ (w : Numbers) (o : Opens w) (u : SetsUp w) where
       record {
         opens = o;
         sets-up = u;
-        file-bytes = two-bytes 0x57 0x01 (omega arith) (omega arith);
+        file-bytes = bytes-each (0x57 ∷ 0x01 ∷ []) (omega arith, (omega arith, tt));
         admitted = life-admitted;
         answers = d .answers ∙ answers;
         archive-is = run-is lives (calls (w .tags)) life-admitted ∙ image;

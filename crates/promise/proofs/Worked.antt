@@ -30,7 +30,7 @@ use Rattle.answer.specs.declared.Outcome.the-variants.{Done}
 use Rattle.answer.specs.declared.Refusal.the-variants.{Unreadable}
 use Rattle.answer.specs.declared.Counted.the-variants.{Count, Refused}
 use Rattle.promise.specs.Worked as W
-use Rattle.promise.proofs.Life.{two-bytes}
+use Rattle.promise.proofs.Life.{bytes-each}
 
 -- ---- Read: the archive with two places
 
@@ -136,7 +136,7 @@ two-solved =
       taken = markAt W.two;
       takes = record { filled = λ k h t. t; independent = independent; every = λ k h t f. absurd (unlike t f) };
       size = refl;
-      bytes = two-bytes 0x57 0x01 (omega arith) (omega arith);
+      bytes = bytes-each (0x57 ∷ 0x01 ∷ []) (omega arith, (omega arith, tt));
       solves = solves;
     }
 
@@ -167,7 +167,7 @@ reads-one =
         refl,
         record {
           v = at (0 ∷ 1 ∷ []);
-          bytes = two-bytes 0 1 (omega arith) (omega arith);
+          bytes = bytes-each (0 ∷ 1 ∷ []) (omega arith, (omega arith, tt));
           one = 1;
           one-there = lit< tt;
           one-not = λ (e : _≡_ {A = ℕ} 1 0). omega arith;
