@@ -80,10 +80,11 @@ each P (x ∷ xs) h (suc i) l = each P xs (h .1) i (omega arith)
 pub bytes-each : (xs : List ℕ) → Each (λ x. x < 256) xs → Bytes xs
 bytes-each = each (λ x. x < 256)
 
--- both places of node 2, and place 1 of node 1
+-- the places of a list are filled
 abbrev AllFilled : ℕ → ℕ → List ℕ → Type 0
 AllFilled tags node = Each (λ place. isFilled (table tags node place) ≡ true)
 
+-- both places of node 2, and place 1 of node 1
 abbrev Filled : Numbers → Type 0
 Filled w = AllFilled (w .tags) 2 (0 ∷ 1 ∷ []) × AllFilled (w .tags) 1 (1 ∷ [])
 
