@@ -1,11 +1,11 @@
-/* How a pair of calls is timed. */
+/* How the proved side and plain C are timed, and the line that says it. */
 #ifndef TIMING_H
 #define TIMING_H
 
 #include <stdio.h>
 #include <time.h>
 
-enum { ROUNDS = 7 };
+#include "gauge.h"
 
 static inline double now(void) {
     struct timespec t;
@@ -13,17 +13,23 @@ static inline double now(void) {
     return t.tv_sec * 1e9 + t.tv_nsec;
 }
 
-static inline void report(const char *what, double rattle, double c, double units, int same) {
-    printf("%s %.3f %.3f %s\n", what, rattle / units, c / units, same ? "equal" : "DIFFERENT");
-}
-
-/* One timed call of each side; the best counts. */
-#define TIMED(best, call)             \
+/* A timed call; the best counts. */
+#define UNTIMED {1e30, 1e30}
+#define TIMED(best, ...)              \
     do {                              \
         double t = now();             \
-        call;                         \
+        __VA_ARGS__;                  \
         t = now() - t;                \
         if (t < best) best = t;       \
     } while (0)
+
+/* What was done, on which data (a gauge's, or DATALESS where no operand of a product is data), the nanoseconds of a unit on both sides, and
+   whether what they gave is equal. */
+enum { DATALESS = GAUGES };
+
+static inline void report(const char *what, int data, const double ns[2], double units, int same) {
+    static const char *const names[] = {"zero", "half", "full", "none"};
+    printf("%s %s %.3f %.3f %s\n", what, names[data], ns[0] / units, ns[1] / units, same ? "equal" : "DIFFERENT");
+}
 
 #endif

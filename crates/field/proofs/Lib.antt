@@ -5,3 +5,4 @@ pub mod PowerLaws
 pub mod LaidLaws
 pub mod TableLaws
 pub mod InverseLaws
+pub mod FactorLaws

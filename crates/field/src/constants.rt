@@ -260,7 +260,7 @@ const POWERS: [u8; 255] = [
     0xf6,
 ];
 
-// The logarithm to the base 03 of each byte but 00, whose entry is never used.
+// The logarithm to the base 03 of each byte but 00; the entry of 00 is some exponent, and its power is multiplied by zero.
 const LOGS: [u8; 256] = [
     0,
     0,

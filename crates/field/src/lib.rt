@@ -5,6 +5,7 @@ use constants::LOGS_START;
 pub use constants::Tables;
 pub use constants::tables;
 ghost use mathlib.Core.Path.{_≡_};
+ghost use mathlib.Core.Logic.{_↔_};
 ghost use Prim.Native.Nat.{_<_};
 ghost use Rattle.field.specs.Field.{times, power, inverseOf};
 ghost use Rattle.field.specs.PrivateTables.{FieldTables};
@@ -18,7 +19,7 @@ fn exp(tables: &Tables, k: usize) -> u8
     tables[k]
 }
 
-// The logarithm of a, where a is not zero.
+// The logarithm of a where a is not zero; of 00 some exponent, so that it is an index too.
 pub fn log(tables: &Tables, a: u8) -> usize
     requires { ⌜ FieldTables (now tables) ⌝ }
     ensures { λ r. ⌜ (r < 255) × (0 < a → power 3 r ≡ a) ⌝ }
@@ -26,15 +27,22 @@ pub fn log(tables: &Tables, a: u8) -> usize
     lists::widen(tables[lists::widen(a) + LOGS_START])
 }
 
-// 03 to the k times b: for loops over b, with k the logarithm of an element that stays.
-pub fn raised(tables: &Tables, k: usize, b: u8) -> u8
-    requires { ⌜ FieldTables (now tables) × (k < 255) ⌝ }
-    ensures { λ r. ⌜ r ≡ times (power 3 k) b ⌝ }
+// 1 where neither operand is zero, else 0, by arithmetic alone: their ordinary product is divided by a number above it, and rounded up.
+pub fn factor(a: u8, b: u8) -> usize
+    ensures bit { λ r. ⌜ r < 2 ⌝ }
+    ensures one { λ r. ⌜ (r ≡ 1) ↔ ((0 < a) × (0 < b)) ⌝ }
 {
-    if b == 0 {
-        return 0;
-    }
-    exp(tables, k + log(tables, b))
+    (lists::widen(a) * lists::widen(b) + 65535) / 65536
+}
+
+// The product of a and b, with k the logarithm of a: for loops over b, where a stays.
+pub fn product_by_log(tables: &Tables, a: u8, k: usize, b: u8) -> u8
+    requires { ⌜ FieldTables (now tables) × (k < 255) × (0 < a → power 3 k ≡ a) ⌝ }
+    ensures { λ r. ⌜ r ≡ times a b ⌝ }
+{
+    let f = factor(a, b);
+    let p = lists::widen(exp(tables, k + log(tables, b)));
+    (p * f) as u8
 }
 
 // The product over the lent tables, for loops.
@@ -42,10 +50,7 @@ pub fn product(tables: &Tables, a: u8, b: u8) -> u8
     requires { ⌜ FieldTables (now tables) ⌝ }
     ensures { λ r. ⌜ r ≡ times a b ⌝ }
 {
-    if a == 0 {
-        return 0;
-    }
-    raised(tables, log(tables, a), b)
+    product_by_log(tables, a, log(tables, a), b)
 }
 
 // The product.

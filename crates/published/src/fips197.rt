@@ -32,6 +32,21 @@ fn products() {
     product(b"FIPS 197 4.2.1, 57 * 13", 0x57, 0x13, 0xfe);
 }
 
+// The zero-or-one factor of two operands, then their product.
+fn factored(label: &[u8], a: u8, b: u8, factor: u64, expected: u8) {
+    cases::number(label, factor, field::factor(a, b) as u64);
+    product(label, a, b, expected);
+}
+
+fn factors() {
+    factored(b"Factor and product, 00 * 00", 0x00, 0x00, 0, 0x00);
+    factored(b"Factor and product, 00 * 83", 0x00, 0x83, 0, 0x00);
+    factored(b"Factor and product, 57 * 00", 0x57, 0x00, 0, 0x00);
+    factored(b"Factor and product, 57 * 83", 0x57, 0x83, 1, 0xc1);
+    factored(b"Factor and product, 01 * 01", 0x01, 0x01, 1, 0x01);
+    factored(b"Factor and product, ff * ff", 0xff, 0xff, 1, 0x13);
+}
+
 fn inverse(label: &[u8], a: u8, expected: u8) {
     cases::number(label, expected as u64, field::inverse(a) as u64);
 }
@@ -133,6 +148,7 @@ fn all_products() {
 
 pub fn run() {
     products();
+    factors();
     inverses();
     sbox();
     all_products();

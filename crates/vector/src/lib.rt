@@ -3,7 +3,7 @@ ghost use mathlib.Core.Path.{_≡_};
 ghost use Prim.Native.Nat.{_+_, _-_, _*_, _<_, _≤_};
 ghost use lib.ListN.{length};
 ghost use Rattle.lists.specs.Lists.{at};
-ghost use Rattle.field.specs.Field.{times, power};
+ghost use Rattle.field.specs.Field.{times};
 ghost use Rattle.field.specs.PrivateTables.{FieldTables};
 ghost use Rattle.vector.specs.Vectors.{product, mixed, added};
 use field::Tables;
@@ -18,29 +18,6 @@ pub fn product_of(tables: &Tables, u: &[u8], v: &[u8], len: usize) -> u8
         total = total ^ field::product(tables, u[e], v[e]);
     }
     total
-}
-
-// 03 to the k times len bytes, from `first` on, added to those of out from `from` on.
-fn add_raised(
-    tables: &Tables,
-    k: usize,
-    u: &[u8],
-    first: usize,
-    out: &mut [u8],
-    from: usize,
-    len: usize,
-)
-    requires { ⌜ FieldTables (now tables)
-        × (k < 255)
-        × (first + len ≤ length (now u))
-        × (from + len ≤ length (now out)) ⌝ }
-    ensures { λ _.
-        let u = now (u .entry) in
-        ⌜ now (out .exit) ≡ added len from (λ e. times (power 3 k) (at u (first + e))) (now (out .entry)) ⌝ }
-{
-    for e in 0..len {
-        out[from + e] = out[from + e] ^ field::raised(tables, k, u[first + e]);
-    }
 }
 
 // c times len bytes, from `first` on, added to those of out from `from` on.
@@ -60,8 +37,9 @@ pub fn add_multiple(
         let u = now (u .entry) in
         ⌜ now (out .exit) ≡ added len from (λ e. times c (at u (first + e))) (now (out .entry)) ⌝ }
 {
-    if c != 0 {
-        add_raised(tables, field::log(tables, c), u, first, out, from, len);
+    let k = field::log(tables, c);
+    for e in 0..len {
+        out[from + e] = out[from + e] ^ field::product_by_log(tables, c, k, u[first + e]);
     }
 }
 

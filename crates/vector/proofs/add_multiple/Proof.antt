@@ -1,24 +1,53 @@
 use borrow.Author.Needs.{needs}
-use Prim.Native.Nat.{ℕ, _+_}
-use mathlib.Core.Path.{ap, _∙_}
+use Prim.Native.Nat.{_≤_, _-_, _+_}
+use mathlib.Core.Path.{_≡_, refl}
 use native.Mathlib.Omega.{arith}
+use lib.ListN.{length}
 use Rattle.lists.specs.Lists.{at}
 use Rattle.field.specs.Field.{times}
-use Rattle.field.proofs.TimesLaws.{zero-times}
-use Rattle.vector.proofs.AddedLaws.{added-same, added-zero}
+use Rattle.vector.specs.Vectors.{added}
+use Rattle.vector.proofs.AddedLaws.{added-none, added-step}
 use Rattle.vector.proofs.add_multiple.Statement.{statement}
 use Rattle.vector.proofs.add_multiple.Tie as tie
 
-returns : tie.Need-returns
-returns c =
-    let a = c .before .before .before .before .before .before .before .before .args in
-    c .before .before .add-raised .ensures
-    ∙ added-same _ _ _ _ _ (λ e l. ap (λ (x : ℕ). times x (at (a .u .now) (a .first + e))) (c .before .before .before .before .log .ensures .1 (omega arith)))
+abbrev Inv-loop : tie.InvT-loop
+Inv-loop tables c u first out₀ from len k e₀ out e =
+    (e ≤ len) × (length out ≡ length out₀) × (out ≡ added e from (λ i. times c (at u (first + i))) out₀)
 
--- the coefficient is zero
-returns-2 : tie.Need-returns-2
-returns-2 c = added-zero _ _ _ _ (λ e l. rw (c .if1 .left) (zero-times _))
+abbrev μ-loop : tie.MeasureT-loop
+μ-loop tables c u first out₀ from len k e₀ out e = len - e
+
+loop-holds : tie.Need-loop-holds Inv-loop μ-loop
+loop-holds c = (omega arith, refl, added-none _ _ _)
+
+loop-again : tie.Need-loop-again Inv-loop μ-loop
+loop-again c =
+    let i = c .before .before .before .before .loop .inv in
+    (omega arith, search needs, added-step _ _ _ _ (i .2) (c .product-by-log .ensures))
+
+returns : tie.Need-returns Inv-loop μ-loop
+returns c =
+    let l = c .before .loop in
+    let e : l .e ≡ c .before .before .before .before .before .args .len = omega arith in
+    rw e at (l .inv .2)
 
 pub add-multiple-spec : {M : Type 1} → statement M
 add-multiple-spec =
-    tie.close (tie.spec (λ c κs. search needs) (λ c κs. search needs) (λ c. search needs) returns returns-2)
+    tie.close
+    (tie.spec
+    Inv-loop
+    μ-loop
+    (λ c κs. search needs)
+    loop-holds
+    (λ c. search needs)
+    (λ c. search needs)
+    (λ c. search needs)
+    (λ c. search needs)
+    (λ c κs. search needs)
+    (λ c. search needs)
+    (λ c. search needs)
+    (λ c. search needs)
+    (λ c. search needs)
+    loop-again
+    (λ c. search needs)
+    returns)
