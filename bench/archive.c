@@ -1,6 +1,7 @@
 /* Encode, Repair, Prove, Verdict and Read beside plain C at the largest sizes, with one tag, on a gauge's data: nanoseconds a call, and
    whether every byte agrees. Blocks that are half zero combine to bytes that hardly ever are, and a mask hides what it masks; so the
-   records that Repair, Prove and Read take, and the response that Verdict judges, are given the gauge's data outright. */
+   records that Repair, Prove and Read take, and the response that Verdict judges, are given the gauge's data outright. Encode is timed by
+   rows with such zeros too: they are the coefficients of its combination. */
 #include <string.h>
 
 #include "../include/span_archive.h"
@@ -13,19 +14,20 @@ enum { ENCODED = HELPERS * PLACES, VERDICTS = 64, TRIES = 4 };
 
 static uint8_t ours[ARCHIVE(1)], theirs[ARCHIVE(1)], message[MESSAGE], response[RESPONSE(1)];
 
-static void encode(const uint8_t *key, enum gauge gauge) {
+/* All those places of a new archive, by the rows of a table, with a file of a gauge's; the time is told of the zeros that vary. */
+static void encode(const char *what, const uint8_t *key, const uint8_t *table, enum gauge file, enum gauge varied) {
     uint8_t refused = span_open(1, N, M, PLACES, NODES, 1, id, 8, ours, ARCHIVE(1));
     double ns[2] = UNTIMED;
     memcpy(theirs, ours, ARCHIVE(1));
-    measure(gauge, inputs.file, FILE_LENGTH, 1);
-    measure(gauge, inputs.padding, 2 * M, 2);
+    measure(file, inputs.file, FILE_LENGTH, 1);
+    measure(file, inputs.padding, 2 * M, 2);
     for (size_t k = 0; k < ENCODED; k++) {
-        const uint8_t *row = inputs.table + k * M;
+        const uint8_t *row = table + k * M;
         TIMED(ns[0], refused |= span_encode(ours, ARCHIVE(1), k / PLACES, k % PLACES, inputs.file, FILE_LENGTH, inputs.padding, 2 * M, key,
                                             32, row, M));
         TIMED(ns[1], c_encode(theirs, k, key, row));
     }
-    report("encode", gauge, ns, 1, !refused && memcmp(ours, theirs, ARCHIVE(1)) == 0);
+    report(what, varied, ns, 1, !refused && memcmp(ours, theirs, ARCHIVE(1)) == 0);
 }
 
 static void repair(enum gauge gauge) {
@@ -73,7 +75,10 @@ static void read_file(enum gauge gauge) {
 
 /* One round; the auxiliary elements of the inputs are there. */
 void archive(const uint8_t *key, enum gauge gauge) {
-    encode(key, gauge);
+    static uint8_t rows[ENCODED * M];
+    measure(gauge, rows, ENCODED * M, 7);
+    encode("encode-by-rows", key, rows, IN_MOTION, gauge);
+    encode("encode", key, inputs.table, gauge, gauge);
     for (size_t k = 0; k < ENCODED; k++) measure(gauge, ours + 18 + k * RECORD(1), N, (unsigned)k);
     memcpy(theirs, ours, ARCHIVE(1));
     repair(gauge);

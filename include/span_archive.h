@@ -8,7 +8,7 @@
    Threads: the library has no writable data of its own, so calls on different buffers may run at once. Alignment: none is asked for. Stack: below
    17 KiB at the largest sizes (measured by tests/run, not proved). Mapped memory: an archive may be a mapped file; a fault in it is the caller's.
    Timing: a product takes no branch on its operands, so zero bytes cost what others do (measured by bench/run, not proved). It looks tables up by
-   their values; Read goes by the rows and marks, Verdict stops at the first tag that fails: nothing is constant-time.
+   their values; Inverse tests for 00, Read goes by the rows and marks, Verdict stops at the first tag that fails: nothing is constant-time.
 
    The bytes of an archive: 4 of packed sizes (the layout in 4 bits, n in 11, m in 5, places in 4, nodes in 3; then under layout 2 the tags in 4
    and a zero bit, under layout 1, which has one tag, five zero bits), the id from byte 4, 48 fill marks from byte 12 (that of node b, place p is
