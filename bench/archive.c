@@ -12,6 +12,9 @@
    few times in a row: the first fills the caches. */
 enum { ENCODED = HELPERS * PLACES, VERDICTS = 64, TRIES = 4 };
 
+/* An archive whose records are hardly more than their rows. */
+enum { ROWS_N = 3, ROWS_ARCHIVE = 18 + NODES * PLACES * (ROWS_N + M + 1) };
+
 static uint8_t ours[ARCHIVE(1)], theirs[ARCHIVE(1)], message[MESSAGE], response[RESPONSE(1)];
 
 /* All those places of a new archive, by the rows of a table, with a file of a gauge's; the time is told of the zeros that vary. */
@@ -69,8 +72,22 @@ static void read_file(enum gauge gauge) {
     size_t count = 0;
     double ns[2] = UNTIMED;
     for (int i = 0; i < TRIES; i++) TIMED(ns[0], refused |= span_read(ours, ARCHIVE(1), x, FILE_LENGTH, &consulted));
-    for (int i = 0; i < TRIES; i++) TIMED(ns[1], count = c_read(theirs, y));
+    for (int i = 0; i < TRIES; i++) TIMED(ns[1], count = c_read(theirs, N, y));
     report("read", gauge, ns, 1, !refused && count == consulted && memcmp(x, y, FILE_LENGTH) == 0);
+}
+
+/* Read at n = 3: the choice among the rows, and the elimination of those taken. */
+void read_rows(const uint8_t *key) {
+    static uint8_t table[ROWS_ARCHIVE];
+    uint8_t x[M], y[M], consulted = 0, refused = span_open(1, ROWS_N, M, PLACES, NODES, 1, id, 8, table, ROWS_ARCHIVE);
+    size_t count = 0;
+    double ns[2] = UNTIMED;
+    for (size_t k = 0; k < ENCODED; k++)
+        refused |= span_encode(table, ROWS_ARCHIVE, k / PLACES, k % PLACES, inputs.file, M, inputs.padding, 2 * M, key, 32,
+                               inputs.table + k * M, M);
+    for (int i = 0; i < TRIES; i++) TIMED(ns[0], refused |= span_read(table, ROWS_ARCHIVE, x, M, &consulted));
+    for (int i = 0; i < TRIES; i++) TIMED(ns[1], count = c_read(table, ROWS_N, y));
+    report("read-rows", DATALESS, ns, 1, !refused && count == consulted && memcmp(x, y, M) == 0);
 }
 
 /* One round; the auxiliary elements of the inputs are there. */

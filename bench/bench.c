@@ -18,6 +18,7 @@ SKIP(PAD);
 enum { ROUNDS = 16, VECTOR = 4096, REPEATS = 256, BYTES = 1 << 20 };
 
 void archive(const uint8_t *key, enum gauge gauge);
+void read_rows(const uint8_t *key);
 
 static void draw(const uint8_t *key) {
     static const uint8_t nonce[12] = {0, 0, 0, 9, 0, 0, 0, 0x4a};
@@ -70,6 +71,7 @@ int main(void) {
         draw(key);
         setup("setup-ten-tags", key, TAGS);
         setup("setup", key, 1);
+        read_rows(key);
         for (enum gauge gauge = AT_REST; gauge < GAUGES; gauge++) {
             product(gauge);
             unmask(key, gauge);

@@ -239,15 +239,16 @@ size_t c_inventory(const uint8_t *archive, uint8_t *list) {
 }
 
 /* Rows, and beside each the combination of the taken places' rows that it is; the pivots' columns are cleared in all others. */
-TIMED_ALONE size_t c_read(uint8_t *archive, uint8_t *out) {
+TIMED_ALONE size_t c_read(const uint8_t *archive, size_t n, uint8_t *out) {
+    const uint8_t *records = archive + 18;
     uint8_t rows[M][2 * M], pivots[M];
-    size_t taken = 0, consulted = 0, places[M];
+    size_t taken = 0, consulted = 0, places[M], len = n + M + tags_in(archive);
     for (size_t k = 0; k < NODES * PLACES && taken < M; k++) {
         uint8_t row[2 * M] = {0};
         size_t p = 0;
         if (!marked(archive, k)) continue;
         consulted++;
-        memcpy(row, record(archive, k) + N, M);
+        memcpy(row, records + k * len + n, M);
         row[M + taken] = 1;
         for (size_t r = 0; r < taken; r++) add(row[pivots[r]], rows[r], row, 2 * M);
         while (p < M && row[p] == 0) p++;
@@ -260,8 +261,8 @@ TIMED_ALONE size_t c_read(uint8_t *archive, uint8_t *out) {
         places[taken++] = k;
     }
     if (taken < M) return 0;
-    memset(out, 0, FILE_LENGTH);
+    memset(out, 0, M * (n - 2));
     for (size_t r = 0; r < M; r++)
-        for (size_t t = 0; t < M; t++) add(rows[r][M + t], record(archive, places[t]), out + pivots[r] * (N - 2), N - 2);
+        for (size_t t = 0; t < M; t++) add(rows[r][M + t], records + places[t] * len, out + pivots[r] * (n - 2), n - 2);
     return consulted;
 }

@@ -27,8 +27,8 @@ void c_prove(uint8_t *archive, size_t node, const uint8_t *coefficients, const u
 uint8_t c_verdict(const uint8_t *key, size_t tags, const uint8_t *rows, const uint8_t *coefficients, const uint8_t *response);
 void c_unmask(const uint8_t *id, const uint8_t *mask_key, const uint8_t *response, uint8_t *out);
 
-/* The number of filled places; of filled places consulted, 0 where the rows do not determine the file. */
+/* The number of filled places; of filled places consulted, 0 where the rows do not determine the file. Read takes any n. */
 size_t c_inventory(const uint8_t *archive, uint8_t *list);
-size_t c_read(uint8_t *archive, uint8_t *out);
+size_t c_read(const uint8_t *archive, size_t n, uint8_t *out);
 
 #endif

@@ -96,7 +96,7 @@ static void list_and_read(void) {
     uint8_t *list = lend(NULL, NODES * PLACES), *file = lend(NULL, FILE_LENGTH), listed[NODES * PLACES], count = 0, consulted = 0;
     size_t filled = c_inventory(theirs, listed), taken;
     memcpy(plain, file, FILE_LENGTH);
-    taken = c_read(theirs, plain);
+    taken = c_read(theirs, N, plain);
     answer("inventory", 0, span_inventory(ours, ARCHIVE(tags), list, NODES * PLACES, &count));
     expect("the list", count == filled && !memcmp(list, listed, NODES * PLACES));
     answer("read", filled < M ? 8 : 0, span_read(ours, ARCHIVE(tags), file, FILE_LENGTH, &consulted));

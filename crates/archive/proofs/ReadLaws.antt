@@ -1,26 +1,25 @@
--- Which places Read takes, and the file that solves for them, are fixed. Assumes nothing.
-use Prim.Native.Nat.{ℕ, zero, suc, _+_, _-_, _*_, _/_, _%_, _<_, _≤_}
-use mathlib.Core.Path.{_≡_, refl, sym, ap, ap₂, _∙_, subst}
-use mathlib.Core.Logic.{⊎-elim, _≢_}
-use mathlib.Core.Bool.{Bool, true, false}
+-- The file that solves for the places taken is fixed. Assumes nothing.
+use Prim.Native.Nat.{ℕ, _+_, _-_, _*_, _/_, _%_, _<_, _≤_}
+use mathlib.Core.Path.{_≡_, sym, ap, ap₂, _∙_, subst}
+use mathlib.Core.Logic.{_≢_}
+use mathlib.Core.Bool.{Bool, true}
 use mathlib.Core.List.{List}
 use native.Mathlib.Decide.{ℕ-discrete}
-use native.Mathlib.Nat.{div-add-mod', mod-lt, div-lt-iff-lt-mul, mul-le-mul-right, eq-or-lt-of-le, le-of-suc-le-suc}
+use native.Mathlib.Nat.{div-add-mod', mod-lt, div-lt-iff-lt-mul, mul-le-mul-right}
 use native.Mathlib.Omega.{arith}
 use lib.Bits.{bitXor, xor-zero-r, xor-self, xor-lt}
 use lib.ListN.{length}
 use lib.Seq.{ext-getD}
-use Rattle.lists.specs.Lists.{pick, at, Bytes}
-use Rattle.field.specs.Field.{plus, times}
+use Rattle.lists.specs.Lists.{at, Bytes}
+use Rattle.field.specs.Field.{plus}
 use Rattle.field.proofs.XorLaws.{xor-cancel}
-use Rattle.field.proofs.SumLaws.{sum-zero}
-use Rattle.field.proofs.TimesLaws.{times-zero}
 use Rattle.sizes.specs.declared.Sizes.{Sizes}
 use Rattle.vector.specs.Vectors.{product}
-use Rattle.vector.proofs.VectorLaws.{mixed-vectors, product-same, product-right, product-zero, product-mixed}
+use Rattle.vector.proofs.VectorLaws.{product-same, product-right}
+use Rattle.vector.proofs.TakenLaws.{candidate-zero}
 use Rattle.sizes.specs.Lengths.{placeCount, fileLength}
 use Rattle.archive.specs.Layout.{markAt, byteIn}
-use Rattle.archive.specs.Read.{rowIn, Blind, Combined, Takes, Solved}
+use Rattle.archive.specs.Read.{rowIn, Blind, Solved}
 
 -- ---- the same for two that agree on the places there are
 
@@ -36,63 +35,6 @@ blind-same z f g r r′ marks rows w =
       orthogonal = λ k h e.
           sym (product-same (z .m) (r k) (r′ k) (w .v) (λ i l. rows k i h l)) ∙ w .orthogonal k h (marks k h ∙ e);
     }
-
--- ---- the places taken
-
-abbrev pub Agree : (ℕ → Bool) → (ℕ → Bool) → ℕ → Type 0
-Agree taken taken′ k = (j : ℕ) → j < k → taken j ≡ taken′ j
-
--- a combination uses only the places before
-pub combined-same : (z : Sizes) (s : List ℕ) (taken taken′ : ℕ → Bool) (k : ℕ) → Agree taken taken′ k → Combined z s taken k → Combined z s taken′ k
-combined-same z s taken taken′ k agree c =
-    (c .0, λ i h. c .1 i h ∙ mixed-vectors k (c .0) _ _ i (λ j l. ap (λ (b : Bool). pick b (rowIn z s j i) 0) (agree j l)))
-
--- where two agree before k, one does not take k alone
-not-alone : (z : Sizes) (s : List ℕ) (count : ℕ) (taken taken′ : ℕ → Bool) → Takes z s count taken → Takes z s count taken′
-    → (k : ℕ) → k < count → Agree taken taken′ k → taken k ≡ true → taken′ k ≡ false → ⊥
-not-alone z s count taken taken′ t t′ k h agree p q =
-    t .independent k h p (combined-same z s taken′ taken k (λ j l. sym (agree j l)) (t′ .every k h (t .filled k h p) q))
-
-module _ (z : Sizes) (s : List ℕ) (count : ℕ) (taken taken′ : ℕ → Bool) (t : Takes z s count taken) (t′ : Takes z s count taken′) where
-  agree-at : (k : ℕ) → k < count → Agree taken taken′ k → taken k ≡ taken′ k
-  agree-at k h agree = go (taken k) (taken′ k) refl refl
-    where
-      go : (x y : Bool) → taken k ≡ x → taken′ k ≡ y → x ≡ y
-      go true true p q = refl
-      go true false p q = absurd (not-alone z s count taken taken′ t t′ k h agree p q)
-      go false true p q = absurd (not-alone z s count taken′ taken t′ t k h (λ j l. sym (agree j l)) q p)
-      go false false p q = refl
-
-  agree-below : (k : ℕ) → k ≤ count → Agree taken taken′ k
-  agree-below zero h j l = absurd (omega arith)
-  agree-below (suc k) h j l =
-      ⊎-elim
-      (λ (e : j ≡ k). rw e (agree-at k h (agree-below k (omega arith))))
-      (λ (b : j < k). agree-below k (omega arith) j b)
-      (eq-or-lt-of-le (le-of-suc-le-suc l))
-
-  pub taken-same : (k : ℕ) → k < count → taken k ≡ taken′ k
-  taken-same = agree-below count (omega arith)
-
--- a vector orthogonal to the rows taken is orthogonal to those filled
-module _ (z : Sizes) (s : List ℕ) (count : ℕ) (taken : ℕ → Bool) (takes : Takes z s count taken) (v : ℕ → ℕ)
-    (zeros : (k : ℕ) → k < count → taken k ≡ true → product (z .m) (rowIn z s k) v ≡ 0) where
-  part-zero : (k : ℕ) → k < count → product (z .m) (λ i. pick (taken k) (rowIn z s k i) 0) v ≡ 0
-  part-zero k h = go (taken k) refl
-    where
-      go : (x : Bool) → taken k ≡ x → product (z .m) (λ i. pick x (rowIn z s k i) 0) v ≡ 0
-      go true q = zeros k h q
-      go false q = product-zero (z .m) v
-
-  pub filled-zero : (k : ℕ) → k < count → markAt s k ≡ true → product (z .m) (rowIn z s k) v ≡ 0
-  filled-zero k h f = go (taken k) refl
-    where
-      go : (x : Bool) → taken k ≡ x → product (z .m) (rowIn z s k) v ≡ 0
-      go true q = zeros k h q
-      go false q =
-          let c : Combined z s taken k = takes .every k h f q in
-          product-same (z .m) _ _ v (c .1) ∙ product-mixed (z .m) k (c .0) _ v
-          ∙ sum-zero k _ (λ j l. ap (times (c .0 j)) (part-zero j (omega arith)) ∙ times-zero (c .0 j))
 
 -- ---- the solution
 
@@ -116,7 +58,7 @@ module _ (z : Sizes) (s out file : List ℕ) (w : Solved z s out) (low : 3 ≤ z
   gap-taken e he k h t = product-right (z .m) _ _ _ ∙ ap₂ plus (w .solves k e h t he) (fits k e h t he) ∙ xor-self (byteIn z s k e)
 
   gap-filled : (e : ℕ) → e < z .n - 2 → (k : ℕ) → k < placeCount z → markAt s k ≡ true → product (z .m) (rowIn z s k) (gap e) ≡ 0
-  gap-filled e he = filled-zero z s (placeCount z) (w .taken) (w .takes) (gap e) (gap-taken e he)
+  gap-filled e he = candidate-zero (z .m) (rowIn z s) (markAt s) (placeCount z) (w .taken) (w .takes) (gap e) (gap-taken e he)
 
   gap-blind : (e : ℕ) → e < z .n - 2 → (i : ℕ) → i < z .m → gap e i ≢ 0 → Blind z (markAt s) (rowIn z s)
   gap-blind e he i h q =

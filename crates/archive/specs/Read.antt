@@ -13,7 +13,8 @@ use Rattle.answer.specs.declared.Outcome.the-variants.{Done, Refused as Refused
 use Rattle.answer.specs.declared.Refusal.the-variants.{Length, BadArchive, Unreadable}
 use Rattle.answer.specs.Refusals.{refuse, differs}
 use Rattle.sizes.specs.declared.Sizes.{Sizes}
-use Rattle.vector.specs.Vectors.{product, mixed}
+use Rattle.vector.specs.Vectors.{product}
+use Rattle.vector.specs.Taken.{Takes}
 use Rattle.sizes.specs.Lengths.{placeCount, fileLength}
 use Rattle.archive.specs.Layout.{sizesOf, markAt, byteIn, badArchive}
 use Rattle.answer.specs.declared.Counted.{Counted}
@@ -32,23 +33,12 @@ pub record Blind (z : Sizes) (named : ℕ → Bool) (row : ℕ → ℕ → ℕ) 
   pub one-not : v one ≢ 0
   pub orthogonal : (k : ℕ) → k < placeCount z → named k ≡ true → product (z .m) (row k) v ≡ 0
 
--- ---- which places are taken, by node and then place
-
--- row k is a combination of the taken rows before it
-abbrev pub Combined : (z : Sizes) (s : List ℕ) (taken : ℕ → Bool) (k : ℕ) → Type 0
-Combined z s taken k =
-    (c : ℕ → ℕ) × ((i : ℕ) → i < z .m → rowIn z s k i ≡ mixed k c (λ j e. pick (taken j) (rowIn z s j e) 0) i)
-
--- of the first `count` places
-pub record Takes (z : Sizes) (s : List ℕ) (count : ℕ) (taken : ℕ → Bool) : Type 0 where
-  pub filled : (k : ℕ) → k < count → taken k ≡ true → markAt s k ≡ true
-  pub independent : (k : ℕ) → k < count → taken k ≡ true → ¬ Combined z s taken k
-  pub every : (k : ℕ) → k < count → markAt s k ≡ true → taken k ≡ false → Combined z s taken k
+-- ---- the places taken, by node and then place
 
 -- a file that solves the equations of the taken places: its m blocks of n - 2 bytes are the unknowns
 pub record Solved (z : Sizes) (s file : List ℕ) : Type 0 where
   pub taken : ℕ → Bool
-  pub takes : Takes z s (placeCount z) taken
+  pub takes : Takes (z .m) (rowIn z s) (markAt s) (placeCount z) taken
   pub size : length file ≡ fileLength z
   pub bytes : Bytes file
   pub solves : (k e : ℕ) → k < placeCount z → taken k ≡ true → e < z .n - 2

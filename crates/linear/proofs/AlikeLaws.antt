@@ -2,15 +2,12 @@
 use Prim.Native.Nat.{ℕ, _<_}
 use mathlib.Core.Path.{_≡_, sym, _∙_}
 use Rattle.vector.specs.Vectors.{product, mixed}
+use Rattle.vector.proofs.TakenLaws.{Alike}
 use Rattle.vector.proofs.VectorLaws.{mixed-mixed, mixed-vectors, product-same, product-keys}
 use Rattle.linear.specs.PrivateElimination.{Matrix, BytesTo, Determining, Independent, Orthogonal, Vanishing, Reduces}
 use Rattle.linear.specs.PrivateSteps.{Vec, unitAt}
 use Rattle.linear.proofs.RowOperationLaws.{unit-byte}
 use Rattle.linear.proofs.RankLaws.{by-unit}
-
--- the first m elements of the first k rows agree
-abbrev Alike : ℕ → ℕ → Matrix → Matrix → Type 0
-Alike k m a b = (i j : ℕ) → i < k → j < m → a i j ≡ b i j
 
 module _ (k m : ℕ) (a b : Matrix) (same : Alike k m a b) where
   -- products with a row, and combinations of the rows

@@ -16,7 +16,7 @@ use borrow.Author.Needs.{elem-fits}
 use Rattle.lists.specs.Lists.{at}
 use Rattle.linear.specs.PrivateElimination.{cells}
 
-row-bytes : (xs : List ℕ) (us : List Val) → shadow (Array (UInt w8) 16 .own xs us) → (j : ℕ) → at xs j < 256
+pub row-bytes : (xs : List ℕ) (us : List Val) → shadow (Array (UInt w8) 16 .own xs us) → (j : ℕ) → at xs j < 256
 row-bytes xs us p j = elem-fits w8 w8 xs (p .0) j (p .1 .1) tt .fits
 
 pub cell-bytes : (xs : List (List ℕ)) (us : List Val) → shadow (each (List ℕ) (Array (UInt w8) 16 .own) xs us) → (i j : ℕ) → cells xs i j < 256

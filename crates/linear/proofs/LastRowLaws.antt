@@ -1,51 +1,38 @@
--- Where k + 1 rows are independent, the last is no combination of those before it. Assumes nothing.
-use Prim.Native.Nat.{ℕ, _+_, _%_, _<_}
-use mathlib.Core.Path.{_≡_, sym, ap, subst, _∙_}
+-- Independent rows and one more that is no combination of them are independent. Assumes nothing.
+use Prim.Native.Nat.{ℕ, _+_, _<_}
+use mathlib.Core.Path.{_≡_, refl, sym, ap, _∙_}
+use mathlib.Core.Logic.{_≢_}
 use native.Mathlib.Decide.{ℕ-discrete}
-use native.Mathlib.Nat.{mod-lt}
+use native.Mathlib.Numerals.{add-one}
 use native.Mathlib.Omega.{arith}
-use lib.Bits.{xor-self}
-use lib.Dec.{lit<}
-use Rattle.lists.specs.Lists.{over}
-use Rattle.lists.proofs.OverLaws.{over-below, over-within}
-use Rattle.field.specs.Field.{times}
-use Rattle.field.proofs.SumLaws.{sum-same, sum-more}
-use Rattle.field.proofs.TimesLaws.{one-times, times-mod-left}
+use lib.Bits.{xor-zero-r}
+use Rattle.field.specs.Field.{plus, times}
+use Rattle.field.proofs.SumLaws.{sum-more}
+use Rattle.field.proofs.TimesLaws.{zero-times}
 use Rattle.vector.specs.Vectors.{mixed}
-use Rattle.vector.proofs.VectorLaws.{mixed-lt}
-use Rattle.linear.specs.PrivateElimination.{Matrix, BytesTo, Independent}
+use Rattle.vector.specs.Taken.{Spanned}
+use Rattle.linear.specs.PrivateElimination.{Matrix, BytesTo, Independent, Vanishing}
 use Rattle.linear.specs.PrivateSteps.{Vec}
+use Rattle.linear.proofs.RankLaws.{last-combined}
 
-module _ (k m : ℕ) (a : Matrix) (c : Vec) (combined : (i : ℕ) → i < m → a k i ≡ mixed k c a i) where
-  -- the coefficients, as bytes, and a one for the last row
-  abbrev all : Vec
-  all = over k 1 (λ i. 1) (λ t. c t % 256)
+module _ (k m : ℕ) (a : Matrix) (low : (i j : ℕ) → a i j < 256) (before : Independent k m a) (apart : ¬ Spanned k m a (a k)) where
+  module _ (y : Vec) (bytes : BytesTo (k + 1) y) (vanish : (c : ℕ) → c < m → mixed (k + 1) y a c ≡ 0) where
+    -- else the last row were a combination of the others
+    last-zero : y k ≡ 0
+    last-zero =
+        let none : y k ≢ 0 → Vanishing (k + 1) m a =
+        λ q. record { y = y; bytes = bytes; one = k; one-there = omega arith; one-not = q; zero-sums = vanish } in
+        elim (ℕ-discrete (y k) 0) [ yes q ↦ q | no q ↦ absurd (apart (last-combined k m a low before (rw add-one at (none q)))) ]
 
-  all-before : (t : ℕ) → t < k → all t ≡ c t % 256
-  all-before = over-below k 1 (λ i. 1) (λ t. c t % 256)
+    without-last : (c : ℕ) → c < m → mixed k y a c ≡ 0
+    unfolding mixed
+    without-last c l =
+        sym (xor-zero-r (mixed k y a c)) ∙ ap (plus (mixed k y a c)) (sym (ap (λ (x : ℕ). times x (a k c)) last-zero ∙ zero-times (a k c)))
+        ∙ sum-more k (λ j. times (y j) (a j c)) refl refl ∙ vanish c l
 
-  all-last : all k ≡ 1
-  all-last = over-within k 1 (λ i. 1) (λ t. c t % 256) k (omega arith) (omega arith)
+    all-zero : (j : ℕ) → j < k + 1 → y j ≡ 0
+    all-zero j l =
+        elim (ℕ-discrete j k) [ yes q ↦ ap y q ∙ last-zero | no q ↦ before y (λ i h. bytes i (omega arith)) without-last j (omega arith) ]
 
-  all-bytes : BytesTo (k + 1) all
-  all-bytes t h =
-      elim (ℕ-discrete t k) [ yes q ↦ rw (q, all-last) (lit< tt) | no q ↦ rw (all-before t (omega arith)) (mod-lt (c t) (lit< tt)) ]
-
-  -- the last row is added to itself
-  all-vanish : (i : ℕ) → i < m → mixed (k + 1) all a i ≡ 0
-  unfolding mixed
-  all-vanish i l =
-      sym (sum-more k (λ t. times (all t) (a t i)) before last) ∙ xor-self (a k i)
-    where
-      before : a k i ≡ mixed k all a i
-      before =
-          combined i l
-          ∙ sum-same k _ _ (λ t h. sym (times-mod-left (c t) (a t i)) ∙ ap (λ (x : ℕ). times x (a t i)) (sym (all-before t h)))
-
-      last : a k i ≡ times (all k) (a k i)
-      last =
-          sym (one-times (subst (λ (x : ℕ). x < 256) (sym (combined i l)) (mixed-lt k c a i)))
-          ∙ ap (λ (x : ℕ). times x (a k i)) (sym all-last)
-
-  pub last-apart : ¬ Independent (k + 1) m a
-  last-apart g = let e : _≡_ {A = ℕ} 1 0 = sym all-last ∙ g all all-bytes all-vanish k (omega arith) in omega arith
+  pub independent-more : Independent (k + 1) m a
+  independent-more = all-zero

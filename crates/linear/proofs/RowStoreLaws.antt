@@ -5,6 +5,7 @@ use mathlib.Core.List.{List, []}
 use Prim.Native.Nat.{ℕ, _<_, _≤_, _+_}
 use native.Mathlib.Omega.{arith}
 use native.Mathlib.Decide.{ℕ-discrete}
+use lib.Bits.{xor-zero-l}
 use lib.ListN.{length, getD, set, length-set, replicate, getD-replicate}
 use lib.Seq.{getD-set-same, getD-set-other}
 use Rattle.lists.specs.Lists.{at}
@@ -13,6 +14,10 @@ use Rattle.linear.specs.PrivateElimination.{cells}
 use Rattle.linear.specs.PrivateSteps.{unitAt, swap, swapOp, scaleOp, clearOp, Operated}
 use Rattle.linear.proofs.RowOperationLaws.{sel-same, sel-other}
 use Rattle.linear.proofs.ArrayLaws.{cell-same, cell-other, stored, stored-kept}
+
+-- the row of zeros adds nothing
+pub to-zeros : (x j : ℕ) → j < 16 → plus (at (replicate 16 0) j) x ≡ x
+to-zeros x j l = ap (λ (z : ℕ). plus z x) (getD-replicate 16 j 0 0 l) ∙ xor-zero-l x
 
 -- row i of the unit matrix
 pub units : (i j : ℕ) → i < 16 → j < 16 → at (set (replicate 16 0) i 1) j ≡ unitAt j i

@@ -6,6 +6,7 @@ use mathlib.Core.List.{List, []}
 use lib.ListN.{getD}
 use Rattle.lists.specs.Lists.{at}
 use Rattle.vector.specs.Vectors.{product, mixed}
+use Rattle.vector.specs.Taken.{Spanned}
 
 abbrev pub Matrix : Type 0
 Matrix = ℕ → ℕ → ℕ
@@ -65,5 +66,4 @@ pub record Reduces (k m : ℕ) (a t : Matrix) (rank : ℕ) : Type 0 where
 -- a row that is not kept: where k rows are independent and a combination of k + 1 vanishes, the last is a combination of those before it
 abbrev pub LastIsCombined : Type 0
 LastIsCombined =
-    (k m : ℕ) (a : Matrix) → ((i j : ℕ) → a i j < 256) → Independent k m a → Vanishing (suc k) m a
-    → (c : ℕ → ℕ) × ((i : ℕ) → i < m → a k i ≡ mixed k c a i)
+    (k m : ℕ) (a : Matrix) → ((i j : ℕ) → a i j < 256) → Independent k m a → Vanishing (suc k) m a → Spanned k m a (a k)

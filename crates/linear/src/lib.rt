@@ -36,7 +36,7 @@ fn swapped(a: [[u8; 16]; 16], i: usize, j: usize) -> [[u8; 16]; 16]
 }
 
 // The row v and c times the row w, added.
-fn added_row(tables: &Tables, v: [u8; 16], w: [u8; 16], c: u8) -> [u8; 16]
+pub fn added_row(tables: &Tables, v: [u8; 16], w: [u8; 16], c: u8) -> [u8; 16]
     requires { ⌜ FieldTables (now tables) ⌝ }
     ensures { λ r. ⌜ ((j : ℕ) → j < 16 → at r j ≡ plus (at v j) (times c (at w j))) ⌝ }
 {

@@ -6,11 +6,12 @@ use mathlib.Core.List.{List}
 use Rattle.answer.specs.declared.Refusal.{Refusal}
 use Rattle.answer.specs.declared.Outcome.the-variants.{Done}
 use Rattle.answer.proofs.RefusalLaws.{accepted, never-both, same-refusal}
+use Rattle.vector.proofs.TakenLaws.{taken-same}
 use Rattle.archive.specs.Layout.{sizesOf}
 use Rattle.archive.specs.Read.{readBefore, ReadAllows}
 use Rattle.answer.specs.declared.Counted.the-variants.{Count, Refused}
 use Rattle.archive.proofs.GoodArchiveLaws.{good-sizes}
-use Rattle.archive.proofs.ReadLaws.{taken-same, solution-only}
+use Rattle.archive.proofs.ReadLaws.{solution-only}
 use Rattle.promise.specs.Companions.{ReadIsFixed}
 
 n-low : (s out : List ℕ) → readBefore (sizesOf s) s out ≡ Done → 3 ≤ sizesOf s .n
@@ -31,7 +32,7 @@ module _ (s out file file′ : List ℕ) where
   files-same : {k k′ : ℕ} → ReadAllows s out (Count k) file → ReadAllows s out (Count k′) file′ → file ≡ file′
   files-same w w′ =
       solution-only (sizesOf s) s file file′ (w .2) (n-low s out (w .0)) (w′ .2 .size) (w′ .2 .bytes)
-      (λ i e h t. w′ .2 .solves i e h (sym (taken-same (sizesOf s) s _ _ _ (w .2 .takes) (w′ .2 .takes) i h) ∙ t))
+      (λ i e h t. w′ .2 .solves i e h (sym (taken-same _ _ _ _ _ _ (w .2 .takes) (w′ .2 .takes) i h) ∙ t))
       (w .1)
 
 pub read-is-fixed : ReadIsFixed

@@ -17,6 +17,7 @@ use Rattle.bits.specs.Fields.{bitOf, bitsOf, widths, number, packed, pack, bitA
 use Rattle.sizes.specs.declared.Sizes.{Sizes}
 use Rattle.sizes.specs.Sizes.{sizesOutside}
 use Rattle.vector.specs.Vectors.{product, mixed}
+use Rattle.vector.specs.Taken.{Combined}
 use Rattle.tag.specs.KeyVector.{withTags}
 use Rattle.mask.specs.Masks.{auxiliary, mask, maskSum}
 use Rattle.message.specs.Response.{responseBytes, dataIn}
@@ -25,7 +26,7 @@ use Rattle.audit.specs.Verdict.{namedRow, appended, fails, accepts}
 use Rattle.archive.specs.Layout.{layoutOutside, tagField, layoutOf, sizesOf, markAt, byteIn, badFor}
 use Rattle.archive.specs.Blocks.{source, coded, codedRecord}
 use Rattle.archive.specs.Prove.{namedByte}
-use Rattle.archive.specs.Read.{rowIn, Blind, among, Combined, Solved, readBefore, ReadFor, ReadAllows}
+use Rattle.archive.specs.Read.{rowIn, Blind, among, Solved, readBefore, ReadFor, ReadAllows}
 use Rattle.answer.specs.declared.Outcome.the-variants.{Done}
 use Rattle.answer.specs.declared.Refusal.the-variants.{Unreadable}
 use Rattle.answer.specs.declared.Counted.the-variants.{Count, Refused}
@@ -80,11 +81,11 @@ sighted named n0 n2 b = go (b .one) (b .one-there) (b .one-not)
     go (suc (suc i)) h ne = omega arith
 
 -- both filled places are taken
-no-rows-before : ¬ Combined W.z W.two (markAt W.two) 0
+no-rows-before : ¬ Combined 2 (rowIn W.z W.two) (markAt W.two) 0
 unfolding byteIn mixed sum
 no-rows-before c = let e : _≡_ {A = ℕ} 1 0 = c .1 0 (omega arith) in omega arith
 
-no-third : ¬ Combined W.z W.two (markAt W.two) 2
+no-third : ¬ Combined 2 (rowIn W.z W.two) (markAt W.two) 2
 unfolding byteIn mixed sum markAt bitAt
 no-third c =
     let e : _≡_ {A = ℕ} 3 (plus (times (c .0 0) 0) (times (c .0 1) 0)) = c .1 1 (omega arith) in
@@ -94,7 +95,7 @@ no-third c =
 unlike : {x : Bool} → x ≡ true → x ≡ false → ⊥
 unlike p q = let e : _≡_ {A = ℕ} 0 1 = cc in omega arith
 
-independent : (k : ℕ) → k < 3 → markAt W.two k ≡ true → ¬ Combined W.z W.two (markAt W.two) k
+independent : (k : ℕ) → k < 3 → markAt W.two k ≡ true → ¬ Combined 2 (rowIn W.z W.two) (markAt W.two) k
 unfolding markAt bitAt
 independent zero h t c = no-rows-before c
 independent (suc zero) h t c = unlike t refl
@@ -134,7 +135,7 @@ two-solved : Solved W.z W.two (0x57 ∷ 0x01 ∷ [])
 two-solved =
     record {
       taken = markAt W.two;
-      takes = record { filled = λ k h t. t; independent = independent; every = λ k h t f. absurd (unlike t f) };
+      takes = record { candidates = λ k h t. t; independent = independent; every = λ k h t f. absurd (unlike t f) };
       size = refl;
       bytes = bytes-each (0x57 ∷ 0x01 ∷ []) (omega arith, (omega arith, tt));
       solves = solves;

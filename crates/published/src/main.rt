@@ -1,5 +1,6 @@
 // Runs the vectors of RFC 8439 and FIPS 197, the worked values and hostile calls through the public functions below the archive.
 mod audits;
+mod choosing;
 mod elimination;
 mod fips197;
 mod key_vector;
@@ -15,4 +16,5 @@ fn main() {
     masks::run();
     audits::run();
     elimination::run();
+    choosing::run();
 }

@@ -22,10 +22,11 @@ use Rattle.sizes.specs.Lengths.{fileLength}
 use Rattle.archive.specs.Read.{rowIn, Solved, readBefore, ReadFor, ReadAllows}
 use Rattle.answer.specs.declared.Counted.the-variants.{Count, Refused}
 use Rattle.archive.proofs.CallLaws.{read-sizes}
-use Rattle.reading.specs.declared.Chosen.{Chosen}
-use Rattle.reading.specs.PrivateChoice.{WholeChoice}
-use Rattle.reading.proofs.ChoiceLaws.{rowsOf}
-use Rattle.reading.proofs.ReadingLaws.{taken-listed, listed-low, count-full, takes-all, unreadable, readable, enough}
+use Rattle.choice.specs.declared.Chosen.{Chosen}
+use Rattle.choice.specs.PrivateChoice.{listedRows}
+use Rattle.choice.proofs.WholeLaws.{taken-listed, listed-low, count-full, takes-all}
+use Rattle.reading.proofs.PlaceRowLaws.{row-byte}
+use Rattle.reading.proofs.ReadingLaws.{ChosenIn, unreadable, readable, enough}
 
 -- every element of blocks in a row has what each element of a block has
 flat-every : (P : ℕ → Type 0) (n m : ℕ) (f : ℕ → ℕ → ℕ) → 0 < m → ((k p : ℕ) → P (f k p)) → (i : ℕ) → i < n * m → P (at (flat n m f) i)
@@ -33,20 +34,20 @@ flat-every P n m f pos h i l =
     subst (λ (x : ℕ). P (at (flat n m f) x)) (div-add-mod' i m)
     (subst P (sym (flat-at n m f (i / m) (i % m) (div-lt-iff-lt-mul {k = m} pos .1 l) (mod-lt i pos))) (h (i / m) (i % m)))
 
-module _ (z : Sizes) (s : List ℕ) (c : Chosen) (chosen : WholeChoice z s c) (t : Matrix) (rank : ℕ)
-    (reduced : Reduces (c .count) (z .m) (rowsOf z s c) t rank) where
+module _ (z : Sizes) (s : List ℕ) (c : Chosen) (chosen : ChosenIn z s c) (t : Matrix) (rank : ℕ)
+    (reduced : Reduces (c .count) (z .m) (listedRows (rowIn z s) c) t rank) where
   -- block i without its padding
   abbrev block : ℕ → ℕ → ℕ
-  block i = mixed (z .m) (t i) (λ r. byteIn z s (at (c .places) r))
+  block i = mixed (z .m) (t i) (λ r. byteIn z s (at (c .numbers) r))
 
   module _ (R : Ranged z) (low : (i : ℕ) → at s i < 256) (full : rank ≡ z .m) where
     -- the blocks solve for what the listed places hold
-    block-solves : (e r : ℕ) → r < c .count → product (z .m) (rowsOf z s c r) (λ i. block i e) ≡ byteIn z s (at (c .places) r) e
+    block-solves : (e r : ℕ) → r < c .count → product (z .m) (listedRows (rowIn z s) c r) (λ i. block i e) ≡ byteIn z s (at (c .numbers) r) e
     unfolding product mixed byteIn
     block-solves e r h =
-        let all = count-full z s c chosen t rank reduced full in
-        let column : ℕ → ℕ = λ r. byteIn z s (at (c .places) r) e in
-        product-keys (z .m) (rowsOf z s c r) (λ i. block i e) (λ i. product (c .count) (t i) column) (λ i l. ap (λ (n : ℕ). product n (t i) column) (sym all))
+        let all = count-full _ _ _ _ c chosen t rank reduced full in
+        let column : ℕ → ℕ = λ r. byteIn z s (at (c .numbers) r) e in
+        product-keys (z .m) (listedRows (rowIn z s) c r) (λ i. block i e) (λ i. product (c .count) (t i) column) (λ i l. ap (λ (n : ℕ). product n (t i) column) (sym all))
         ∙ reduced .solves full all column (λ j l. low _) r h
 
     -- the file is a solution
@@ -60,15 +61,15 @@ module _ (z : Sizes) (s : List ℕ) (c : Chosen) (chosen : WholeChoice z s c) (t
         made =
             record {
               taken = taken;
-              takes = takes-all z s c chosen t rank reduced full low;
+              takes = takes-all _ _ _ _ c chosen t rank reduced full (row-byte z s low);
               size = length-flat (z .m) (z .n - 2) block;
               bytes = λ i h.
                   flat-every (λ x. x < 256) (z .m) (z .n - 2) block (omega (arith, R .n-low)) (λ k p. mixed-lt _ _ _ _) i
                   (omega (arith, h, length-flat (z .m) (z .n - 2) block));
               solves = λ k e h q he.
                   product-keys (z .m) (rowIn z s k) _ (λ i. block i e) (λ i l. flat-at (z .m) (z .n - 2) block i e l he)
-                  ∙ subst (λ (p : ℕ). product (z .m) (rowIn z s p) (λ i. block i e) ≡ byteIn z s p e) (taken-listed z s c chosen k q)
-                  (block-solves e (howMany k taken) (listed-low z s c chosen k q));
+                  ∙ subst (λ (p : ℕ). product (z .m) (rowIn z s p) (λ i. block i e) ≡ byteIn z s p e) (taken-listed _ _ _ _ c chosen k q)
+                  (block-solves e (howMany k taken) (listed-low _ _ _ _ c chosen k q));
             }
 
   -- ---- the answers

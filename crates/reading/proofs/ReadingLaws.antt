@@ -1,42 +1,24 @@
--- What the chosen places tell where elimination has found their rank. Assumes nothing.
+-- What the places taken tell: whether the file can be read, and how many places suffice. Assumes nothing.
 use Prim.Native.Nat.{ℕ, zero, suc, _+_, _<_, _≤_}
-use mathlib.Core.Path.{_≡_, refl, sym, ap, _∙_}
-use mathlib.Core.Logic.{⊎-elim}
-use mathlib.Core.Bool.{Bool, true, false, true≢false}
+use mathlib.Core.Path.{_≡_, refl, subst, _∙_}
+use mathlib.Core.Bool.{Bool, true, false}
 use mathlib.Core.List.{List}
 use native.Mathlib.Omega.{arith}
 use borrow.Author.Tests.{lt-ltb}
 use Rattle.lists.specs.Lists.{at, bit, howMany}
-use Rattle.lists.proofs.TabLaws.{order}
+use Rattle.lists.proofs.CountLaws.{howMany-mono, howMany-less}
 use Rattle.sizes.specs.declared.Sizes.{Sizes}
-use Rattle.vector.specs.Vectors.{product, mixed}
-use Rattle.linear.specs.PrivateElimination.{Matrix, Orthogonal, Reduces}
-use Rattle.linear.proofs.AlikeLaws.{spans}
 use Rattle.sizes.specs.Lengths.{placeCount}
-use Rattle.archive.specs.Layout.{markAt, byteIn}
-use Rattle.archive.specs.Read.{rowIn, Blind, Combined, Takes, among, Enough}
-use Rattle.archive.proofs.ReadLaws.{filled-zero}
-use Rattle.reading.specs.declared.Chosen.{Chosen}
-use Rattle.reading.specs.PrivateChoice.{Choice, WholeChoice}
-use Rattle.lists.proofs.CountLaws.{howMany-mono, howMany-less, howMany-stop}
-use Rattle.reading.proofs.GatherLaws.{combined-listed}
-use Rattle.reading.proofs.ChoiceLaws.{rowsOf}
-
--- ---- counting
-
--- the index that is the t-th to pass
-passing : (k t : ℕ) (p : ℕ → Bool) → t < howMany k p → (j : ℕ) × (j < k) × (p j ≡ true) × (howMany j p ≡ t)
-unfolding howMany
-passing zero t p h = absurd (omega arith)
-passing (suc k) t p h =
-    ⊎-elim
-    (λ (l : t < howMany k p). let w = passing k t p l in (w .0, omega (arith, w .1), w .2, w .3))
-    (λ (l : howMany k p ≤ t). go (p k) refl h l)
-    (order t (howMany k p))
-  where
-    go : (b : Bool) → p k ≡ b → t < howMany k p + bit b → howMany k p ≤ t → (j : ℕ) × (j < suc k) × (p j ≡ true) × (howMany j p ≡ t)
-    go true e a l = (k, omega arith, e, omega arith)
-    go false e a l = absurd (omega arith)
+use Rattle.linear.specs.PrivateElimination.{Matrix, Reduces}
+use Rattle.linear.proofs.AlikeLaws.{reduces-same}
+use Rattle.choice.specs.declared.Rows.{Rows}
+use Rattle.choice.specs.declared.Chosen.{Chosen}
+use Rattle.choice.specs.PrivateChoice.{rowAt, offered, listedRows, WholeChoice}
+use Rattle.choice.proofs.WholeLaws.{whole-alike, taken, taken-low, candidates-zero, count-full, determined}
+use Rattle.archive.specs.Layout.{markAt}
+use Rattle.archive.specs.Read.{rowIn, Blind, among, Enough}
+use Rattle.reading.specs.PrivateRows.{rowsIn}
+use Rattle.reading.proofs.PlaceRowLaws.{row-in}
 
 -- where one passes the other does
 howMany-within : (n : ℕ) (p q : ℕ → Bool) → ((j : ℕ) → j < n → p j ≡ true → q j ≡ true) → howMany n p ≤ howMany n q
@@ -48,106 +30,79 @@ howMany-within (suc n) p q h = go (p n) refl (howMany-within n p q (λ j l. h j 
     go true e before = rw (h n (omega arith) e) (omega arith)
     go false e before = omega arith
 
--- ---- the choice
+-- a choice among the places of an archive
+abbrev pub ChosenIn : (z : Sizes) (s : List ℕ) (c : Chosen) → Type 0
+ChosenIn z s c = WholeChoice (placeCount z) (z .m) (rowIn z s) (markAt s) c
 
-module _ (z : Sizes) (s : List ℕ) (c : Chosen) (chosen : WholeChoice z s c) where
-  abbrev choice : Choice z s (chosen .end) c
-  choice = chosen .choice
+-- the choice among the rows of an archive, and the elimination of the rows taken
+module _ (z : Sizes) (s : List ℕ) (rows : Rows) (c : Chosen) (is : rows ≡ rowsIn z) where
+  pub chosen-in : (marks : List ℕ) → ((k : ℕ) → k < placeCount z → offered marks k ≡ markAt s k)
+      → WholeChoice (rows .count) (rows .m) (rowAt s rows) (offered marks) c → ChosenIn z s c
+  chosen-in marks same w =
+      whole-alike (placeCount z) (z .m) (rowAt s (rowsIn z)) (rowIn z s) (offered marks) (markAt s) c (λ k i h l. row-in z s k i) same
+      (subst (λ (x : Rows). WholeChoice (x .count) (x .m) (rowAt s x) (offered marks) c) is w)
 
-  abbrev taken : ℕ → Bool
-  taken = choice .taken
+  pub reduced-in : {a t : Matrix} {rank : ℕ} → ((j i : ℕ) → j < c .count → i < rows .m → a j i ≡ rowAt s rows (at (c .numbers) j) i)
+      → Reduces (c .count) (z .m) a t rank → Reduces (c .count) (z .m) (listedRows (rowIn z s) c) t rank
+  reduced-in {a} {t} {rank} same =
+      reduces-same (c .count) (z .m) a (listedRows (rowIn z s) c)
+      (λ j i h l.
+      subst (λ (x : Rows). ((j i : ℕ) → j < c .count → i < x .m → a j i ≡ rowAt s x (at (c .numbers) j) i)) is same j i h l
+      ∙ row-in z s (at (c .numbers) j) i)
+      t rank
 
-  taken-low : (j : ℕ) → taken j ≡ true → j < chosen .end
-  taken-low j e =
-      ⊎-elim (λ (l : j < chosen .end). l) (λ (l : chosen .end ≤ j). absurd (true≢false (sym e ∙ choice .later j l))) (order j (chosen .end))
+module _ (z : Sizes) (s : List ℕ) (c : Chosen) (chosen : ChosenIn z s c) (t : Matrix) (rank : ℕ)
+    (reduced : Reduces (c .count) (z .m) (listedRows (rowIn z s) c) t rank) where
+  pub unreadable : rank < z .m → Blind z (markAt s) (rowIn z s)
+  unreadable h =
+      let o = reduced .blind h in
+      record {
+        v = o .x;
+        bytes = o .bytes;
+        one = o .one;
+        one-there = o .one-there;
+        one-not = o .one-not;
+        orthogonal = candidates-zero _ _ _ _ c chosen t rank reduced h;
+      }
 
-  -- a taken place is listed, and a listed place is taken
-  pub taken-listed : (j : ℕ) → taken j ≡ true → at (c .places) (howMany j taken) ≡ j
-  taken-listed j e = choice .listed j (taken-low j e) e
+  module _ (full : rank ≡ z .m) where
+    abbrev is-taken : ℕ → Bool
+    is-taken = taken _ _ _ _ c chosen
 
-  pub listed-low : (j : ℕ) → taken j ≡ true → howMany j taken < c .count
-  listed-low j e = omega (arith, howMany-less j (chosen .end) taken (taken-low j e) e, choice .number)
+    low : (j : ℕ) → is-taken j ≡ true → j < chosen .end
+    low = taken-low _ _ _ _ c chosen
 
-  listed-taken : (t : ℕ) → t < c .count → (j : ℕ) × (j < placeCount z) × (taken j ≡ true) × (at (c .places) t ≡ j)
-  listed-taken t h =
-      let w = passing (chosen .end) t taken (omega (arith, choice .number)) in
-      (w .0, omega (arith, w .1, chosen .there), w .2, ap (at (c .places)) (sym (w .3)) ∙ choice .listed (w .0) (w .1) (w .2))
+    taken-filled : (j : ℕ) → is-taken j ≡ true → markAt s j ≡ true
+    taken-filled j e = chosen .choice .takes .candidates j (low j e) e
 
-  module _ (t : Matrix) (rank : ℕ) (reduced : Reduces (c .count) (z .m) (rowsOf z s c) t rank) where
-    -- ---- rank below m
+    -- the places taken suffice
+    not-blind : (named : ℕ → Bool) → ((j : ℕ) → is-taken j ≡ true → named j ≡ true) → ¬ Blind z named (rowIn z s)
+    not-blind named all b =
+        b .one-not
+        (determined _ _ _ _ c chosen t rank reduced full (b .v) (b .bytes)
+        (λ j e. b .orthogonal j (omega (arith, low j e, chosen .there)) (all j e)) (b .one) (b .one-there))
 
-    -- then there were no more places
-    all-seen : rank < z .m → chosen .end ≡ placeCount z
-    all-seen h =
-        ⊎-elim
-        (λ (e : chosen .end ≡ placeCount z). e)
-        (λ (e : c .count ≡ z .m). absurd (omega (arith, h, reduced .independent .1 (choice .independent))))
-        (chosen .ended)
+    pub readable : ¬ Blind z (markAt s) (rowIn z s)
+    readable = not-blind (markAt s) taken-filled
 
-    orthogonal-taken : (o : Orthogonal (c .count) (z .m) (rowsOf z s c)) (k : ℕ) → taken k ≡ true → product (z .m) (rowIn z s k) (o .x) ≡ 0
-    orthogonal-taken o k e =
-        ap (λ (p : ℕ). product (z .m) (rowIn z s p) (o .x)) (sym (taken-listed k e)) ∙ o .zero-products (howMany k taken) (listed-low k e)
+    -- a taken place is one of those consulted
+    taken-among : (j : ℕ) → is-taken j ≡ true → among (c .consulted) (markAt s) j ≡ true
+    taken-among j e =
+        let before : howMany j (markAt s) < c .consulted =
+        rw (chosen .choice .consulted) (howMany-less j (chosen .end) (markAt s) (low j e) (taken-filled j e)) in
+        rw (taken-filled j e) (lt-ltb _ _ before)
 
-    pub unreadable : rank < z .m → Blind z (markAt s) (rowIn z s)
-    unreadable h =
-        let o = reduced .blind h in
+    pub enough : Enough z (markAt s) (rowIn z s) (c .consulted)
+    enough =
         record {
-          v = o .x;
-          bytes = o .bytes;
-          one = o .one;
-          one-there = o .one-there;
-          one-not = o .one-not;
-          orthogonal = λ k l. filled-zero z s (chosen .end) taken (choice .takes) (o .x) (λ j b. orthogonal-taken o j) k (omega (arith, l, all-seen h));
+          least =
+              omega (
+                arith,
+                count-full _ _ _ _ c chosen t rank reduced full,
+                chosen .choice .number,
+                chosen .choice .consulted,
+                howMany-within (chosen .end) is-taken (markAt s) (λ j l. taken-filled j),
+              );
+          most = rw (chosen .choice .consulted) (howMany-mono (chosen .end) (placeCount z) (markAt s) (chosen .there));
+          suffice = not-blind (among (c .consulted) (markAt s)) taken-among;
         }
-
-    -- ---- rank m
-
-    module _ (full : rank ≡ z .m) where
-      pub count-full : c .count ≡ z .m
-      count-full = omega (arith, full, reduced .at-most-rows, choice .fits)
-
-      -- the places taken suffice
-      not-blind : (named : ℕ → Bool) → ((j : ℕ) → taken j ≡ true → named j ≡ true) → ¬ Blind z named (rowIn z s)
-      not-blind named all b = b .one-not (reduced .determining .0 full (b .v) (b .bytes) zeros (b .one) (b .one-there))
-        where
-          zeros : (r : ℕ) → r < c .count → product (z .m) (rowsOf z s c r) (b .v) ≡ 0
-          zeros r h =
-              let w = listed-taken r h in
-              ap (λ (p : ℕ). product (z .m) (rowIn z s p) (b .v)) (w .3) ∙ b .orthogonal (w .0) (w .1) (all (w .0) (w .2))
-
-      taken-filled : (j : ℕ) → taken j ≡ true → markAt s j ≡ true
-      taken-filled j e = choice .takes .filled j (taken-low j e) e
-
-      pub readable : ¬ Blind z (markAt s) (rowIn z s)
-      readable = not-blind (markAt s) taken-filled
-
-      -- a taken place is one of those consulted
-      taken-among : (j : ℕ) → taken j ≡ true → among (c .consulted) (markAt s) j ≡ true
-      taken-among j e =
-          let before : howMany j (markAt s) < c .consulted = rw (choice .consulted) (howMany-less j (chosen .end) (markAt s) (taken-low j e) (taken-filled j e)) in
-          rw (taken-filled j e) (lt-ltb _ _ before)
-
-      pub enough : Enough z (markAt s) (rowIn z s) (c .consulted)
-      enough =
-          record {
-            least = omega (arith, count-full, choice .number, choice .consulted, howMany-within (chosen .end) taken (markAt s) (λ j l. taken-filled j));
-            most = rw (choice .consulted) (howMany-mono (chosen .end) (placeCount z) (markAt s) (chosen .there));
-            suffice = not-blind (among (c .consulted) (markAt s)) taken-among;
-          }
-
-      -- a place past those seen is a combination of those taken
-      past-combined : ((i : ℕ) → at s i < 256) → (k : ℕ) → chosen .end ≤ k → Combined z s taken k
-      unfolding byteIn
-      past-combined low k h =
-          let y = spans (c .count) (z .m) (rowsOf z s c) t rank reduced full (λ i j b l. low _) (rowIn z s k) (λ i l. low _) in
-          let count : c .count ≡ howMany k taken = choice .number ∙ sym (howMany-stop (chosen .end) k taken h (choice .later)) in
-          combined-listed z s taken (at (c .places)) (y .0) k (λ j l. taken-listed j) (λ i l. y .1 i l ∙ ap (λ (n : ℕ). mixed n (y .0) (rowsOf z s c) i) count)
-
-      pub takes-all : ((i : ℕ) → at s i < 256) → Takes z s (placeCount z) taken
-      takes-all low =
-          record {
-            filled = λ k h. taken-filled k;
-            independent = λ k h e. choice .takes .independent k (taken-low k e) e;
-            every = λ k h f e.
-                ⊎-elim (λ (l : k < chosen .end). choice .takes .every k l f e) (λ (l : chosen .end ≤ k). past-combined low k l) (order k (chosen .end));
-          }

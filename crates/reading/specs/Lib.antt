@@ -1,1 +1,1 @@
-pub mod PrivateChoice
+pub mod PrivateRows

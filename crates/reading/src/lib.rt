@@ -10,16 +10,9 @@ ghost use Rattle.sizes.specs.Lengths.{fileLength};
 ghost use Rattle.archive.specs.Read.{ReadAllows};
 use answer::Counted;
 use answer::Refusal;
-use choosing::choose;
-use choosing::rows_of;
+use choosing::marks;
+use choosing::rows_in;
 use solving::solve;
-
-// The places taken, in order, and the number of filled places consulted.
-pub struct Chosen {
-    pub count: usize,
-    pub consulted: usize,
-    pub places: [u8; 16],
-}
 
 // The file and the number of places consulted, where the rows determine it.
 fn read_file(archive: &[u8], file: &mut [u8]) -> Counted
@@ -27,11 +20,12 @@ fn read_file(archive: &[u8], file: &mut [u8]) -> Counted
     ensures { λ r. ⌜ ReadAllows (now (archive .entry)) (now (file .entry)) r (now (file .exit)) ⌝ }
 {
     let z = archive::sizes_in(archive);
-    let c = choose(archive, z);
-    let places = c.places;
-    let rows = rows_of(archive, z, places, c.count);
+    let rows = rows_in(z);
+    let c = choice::choose(archive, rows, marks(archive, z));
+    let places = c.numbers;
+    let taken = choice::rows_of(archive, rows, places, c.count);
     let mut rank = 0;
-    let combinations = linear::reduce(rows, c.count, z.m, &mut rank);
+    let combinations = linear::reduce(taken, c.count, z.m, &mut rank);
     if rank < z.m {
         return Counted::Refused(Refusal::Unreadable);
     }

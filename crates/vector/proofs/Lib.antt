@@ -1,2 +1,4 @@
 pub mod VectorLaws
 pub mod AddedLaws
+pub mod SpanLaws
+pub mod TakenLaws

@@ -1,0 +1,4 @@
+pub mod ReducedLaws
+pub mod GatherLaws
+pub mod ChoiceLaws
+pub mod WholeLaws

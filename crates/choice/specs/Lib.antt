@@ -1,0 +1,2 @@
+pub mod PrivateReduced
+pub mod PrivateChoice
