@@ -1,7 +1,7 @@
-/* Encode, Repair, Prove, Verdict and Read beside plain C at the largest sizes, with one tag, on a gauge's data: nanoseconds a call, and
-   whether every byte agrees. Blocks that are half zero combine to bytes that hardly ever are, and a mask hides what it masks; so the
-   records that Repair, Prove and Read take, and the response that Verdict judges, are given the gauge's data outright. Encode is timed by
-   rows with such zeros too: they are the coefficients of its combination. */
+/* Encode, Repair, Prove, Verdict and Read beside plain C at the largest sizes, with one tag, on a gauge's data, and Read of rows alone:
+   nanoseconds a call, and whether every byte agrees. Blocks that are half zero combine to bytes that hardly ever are, and a mask hides
+   what it masks; so the records that Repair, Prove and Read take, and the response that Verdict judges, are given the gauge's data
+   outright. Encode is timed by rows with such zeros too: they are the coefficients of its combination. */
 #include <string.h>
 
 #include "../include/span_archive.h"
