@@ -1,5 +1,5 @@
-/* Encode, Repair, Prove, Verdict and Read beside plain C at the largest sizes, with one tag, on a gauge's data, and Read of rows alone:
-   nanoseconds a call, and whether every byte agrees. Blocks that are half zero combine to bytes that hardly ever are, and a mask hides
+/* Encode, Repair, Prove, Verdict and Read beside plain C at the largest sizes, with one tag, on a gauge's data, and Plan and a Read of rows
+   alone: nanoseconds a call, and whether every byte agrees. Blocks that are half zero combine to bytes that hardly ever are, and a mask hides
    what it masks; so the records that Repair, Prove and Read take, and the response that Verdict judges, are given the gauge's data
    outright. Encode is timed by rows with such zeros too: they are the coefficients of its combination. */
 #include <string.h>
@@ -8,8 +8,8 @@
 #include "plain.h"
 #include "timing.h"
 
-/* The places of nodes 0 to 4, which are encoded and then help. A verdict is short, so many are timed together. Verdict and Read are tried a
-   few times in a row: the first fills the caches. */
+/* The places of nodes 0 to 4, which are encoded and then help. A verdict is short, so many are timed together. Verdict, Read and Plan are
+   tried a few times in a row: the first fills the caches. */
 enum { ENCODED = HELPERS * PLACES, VERDICTS = 64, TRIES = 4 };
 
 /* An archive whose records are hardly more than their rows. */
@@ -76,15 +76,33 @@ static void read_file(enum gauge gauge) {
     report("read", gauge, ns, 1, !refused && count == consulted && memcmp(x, y, FILE_LENGTH) == 0);
 }
 
+/* Those places of a new archive at some n, untimed, by the table's rows; zero where nothing is refused. */
+static uint8_t encoded(const uint8_t *key, size_t n, uint8_t *to, size_t len) {
+    uint8_t refused = span_open(1, n, M, PLACES, NODES, 1, id, 8, to, len);
+    for (size_t k = 0; k < ENCODED; k++)
+        refused |= span_encode(to, len, k / PLACES, k % PLACES, inputs.file, M * (n - 2), inputs.padding, 2 * M, key, 32,
+                               inputs.table + k * M, M);
+    return refused;
+}
+
+/* Plan of the rows for node 5 from all others. */
+void plan(const uint8_t *key) {
+    uint8_t x[COEFFICIENTS], y[COEFFICIENTS], refused = encoded(key, N, ours, ARCHIVE(1));
+    const uint8_t *wanted = inputs.table + ENCODED * M;
+    double ns[2] = UNTIMED;
+    for (int i = 0; i < TRIES; i++)
+        TIMED(ns[0], refused |= span_plan(ours, ARCHIVE(1), helpers, HELPERS, Q, inputs.gammas, COEFFICIENTS, wanted, PLACES * M, x,
+                                          COEFFICIENTS));
+    for (int i = 0; i < TRIES; i++) TIMED(ns[1], refused |= c_plan(ours, helpers, HELPERS, Q, wanted, y));
+    report("plan", DATALESS, ns, 1, !refused && memcmp(x, y, COEFFICIENTS) == 0);
+}
+
 /* Read at n = 3: the choice among the rows, and the elimination of those taken. */
 void read_rows(const uint8_t *key) {
     static uint8_t table[ROWS_ARCHIVE];
-    uint8_t x[M], y[M], consulted = 0, refused = span_open(1, ROWS_N, M, PLACES, NODES, 1, id, 8, table, ROWS_ARCHIVE);
+    uint8_t x[M], y[M], consulted = 0, refused = encoded(key, ROWS_N, table, ROWS_ARCHIVE);
     size_t count = 0;
     double ns[2] = UNTIMED;
-    for (size_t k = 0; k < ENCODED; k++)
-        refused |= span_encode(table, ROWS_ARCHIVE, k / PLACES, k % PLACES, inputs.file, M, inputs.padding, 2 * M, key, 32,
-                               inputs.table + k * M, M);
     for (int i = 0; i < TRIES; i++) TIMED(ns[0], refused |= span_read(table, ROWS_ARCHIVE, x, M, &consulted));
     for (int i = 0; i < TRIES; i++) TIMED(ns[1], count = c_read(table, ROWS_N, y));
     report("read-rows", DATALESS, ns, 1, !refused && count == consulted && memcmp(x, y, M) == 0);

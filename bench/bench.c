@@ -18,6 +18,7 @@ SKIP(PAD);
 enum { ROUNDS = 16, VECTOR = 4096, REPEATS = 256, BYTES = 1 << 20 };
 
 void archive(const uint8_t *key, enum gauge gauge);
+void plan(const uint8_t *key);
 void read_rows(const uint8_t *key);
 
 static void draw(const uint8_t *key) {
@@ -71,6 +72,7 @@ int main(void) {
         draw(key);
         setup("setup-ten-tags", key, TAGS);
         setup("setup", key, 1);
+        plan(key);
         read_rows(key);
         for (enum gauge gauge = AT_REST; gauge < GAUGES; gauge++) {
             product(gauge);

@@ -238,31 +238,75 @@ size_t c_inventory(const uint8_t *archive, uint8_t *list) {
     return count;
 }
 
-/* Rows, and beside each the combination of the taken places' rows that it is; the pivots' columns are cleared in all others. */
+/* Independent rows, reduced: each has its pivot, a one where the others have zeros, and beside it the combination of the rows taken that it
+   is. */
+struct basis {
+    uint8_t rows[M][2 * M], pivots[M];
+    size_t count;
+};
+
+/* A row becomes zero at the pivots; beside it, what was added of the rows taken. */
+static inline void reduce(const struct basis *b, uint8_t *row) {
+    for (size_t r = 0; r < b->count; r++) add(row[b->pivots[r]], b->rows[r], row, 2 * M);
+}
+
+/* Takes a row, unless it is a combination of those taken before, which are fewer than M. */
+static inline int take(struct basis *b, const uint8_t *from) {
+    uint8_t row[2 * M] = {0}, c;
+    size_t p = 0;
+    memcpy(row, from, M);
+    row[M + b->count] = 1;
+    reduce(b, row);
+    while (p < M && row[p] == 0) p++;
+    if (p == M) return 0;
+    c = c_inverse(row[p]);
+    for (size_t e = 0; e < 2 * M; e++) row[e] = c_multiply(c, row[e]);
+    for (size_t r = 0; r < b->count; r++) add(b->rows[r][p], row, b->rows[r], 2 * M);
+    memcpy(b->rows[b->count], row, 2 * M);
+    b->pivots[b->count++] = (uint8_t)p;
+    return 1;
+}
+
 TIMED_ALONE size_t c_read(const uint8_t *archive, size_t n, uint8_t *out) {
     const uint8_t *records = archive + 18;
-    uint8_t rows[M][2 * M], pivots[M];
-    size_t taken = 0, consulted = 0, places[M], len = n + M + tags_in(archive);
-    for (size_t k = 0; k < NODES * PLACES && taken < M; k++) {
-        uint8_t row[2 * M] = {0};
-        size_t p = 0;
+    struct basis b = {.count = 0};
+    size_t consulted = 0, places[M], len = n + M + tags_in(archive);
+    for (size_t k = 0; k < NODES * PLACES && b.count < M; k++) {
         if (!marked(archive, k)) continue;
         consulted++;
-        memcpy(row, records + k * len + n, M);
-        row[M + taken] = 1;
-        for (size_t r = 0; r < taken; r++) add(row[pivots[r]], rows[r], row, 2 * M);
-        while (p < M && row[p] == 0) p++;
-        if (p == M) continue;
-        uint8_t c = c_inverse(row[p]);
-        for (size_t e = 0; e < 2 * M; e++) row[e] = c_multiply(c, row[e]);
-        for (size_t r = 0; r < taken; r++) add(rows[r][p], row, rows[r], 2 * M);
-        memcpy(rows[taken], row, 2 * M);
-        pivots[taken] = (uint8_t)p;
-        places[taken++] = k;
+        if (take(&b, records + k * len + n)) places[b.count - 1] = k;
     }
-    if (taken < M) return 0;
+    if (b.count < M) return 0;
     memset(out, 0, M * (n - 2));
     for (size_t r = 0; r < M; r++)
-        for (size_t t = 0; t < M; t++) add(rows[r][M + t], records + places[t] * len, out + pivots[r] * (n - 2), n - 2);
+        for (size_t t = 0; t < M; t++) add(b.rows[r][M + t], records + places[t] * len, out + b.pivots[r] * (n - 2), n - 2);
     return consulted;
+}
+
+/* The row of repair block t, of q a helper. */
+static inline void repair_row(const uint8_t *archive, const uint8_t *helpers, size_t q, size_t t, uint8_t *row) {
+    const uint8_t *rows = archive + 18 + N;
+    size_t len = RECORD(tags_in(archive));
+    memset(row, 0, M);
+    for (size_t l = 0; l < PLACES; l++) add(inputs.gammas[t * PLACES + l], rows + (helpers[t / q] * PLACES + l) * len, row, M);
+}
+
+TIMED_ALONE uint8_t c_plan(const uint8_t *archive, const uint8_t *helpers, size_t count, size_t q, const uint8_t *wanted, uint8_t *thetas) {
+    static const uint8_t zeros[M];
+    uint8_t row[M], solved[PLACES][2 * M] = {{0}};
+    struct basis b = {.count = 0};
+    size_t blocks[M];
+    for (size_t t = 0; t < count * q && b.count < M; t++) {
+        repair_row(archive, helpers, q, t, row);
+        if (take(&b, row)) blocks[b.count - 1] = t;
+    }
+    for (size_t k = 0; k < PLACES; k++) {
+        memcpy(solved[k], wanted + k * M, M);
+        reduce(&b, solved[k]);
+        if (memcmp(solved[k], zeros, M)) return 12;
+    }
+    memset(thetas, 0, count * q * PLACES);
+    for (size_t r = 0; r < b.count; r++)
+        for (size_t k = 0; k < PLACES; k++) thetas[blocks[r] * PLACES + k] = solved[k][M + r];
+    return 0;
 }

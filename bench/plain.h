@@ -31,4 +31,7 @@ void c_unmask(const uint8_t *id, const uint8_t *mask_key, const uint8_t *respons
 size_t c_inventory(const uint8_t *archive, uint8_t *list);
 size_t c_read(const uint8_t *archive, size_t n, uint8_t *out);
 
+/* Thetas for the wanted rows, from q repair blocks of each of `count` helpers: 0, or 12 where there are none, and nothing is written. */
+uint8_t c_plan(const uint8_t *archive, const uint8_t *helpers, size_t count, size_t q, const uint8_t *wanted, uint8_t *thetas);
+
 #endif

@@ -8,7 +8,7 @@
    Threads: the library has no writable data of its own, so calls on different buffers may run at once. Alignment: none is asked for. Stack: below
    17 KiB at the largest sizes (measured by tests/run, not proved). Mapped memory: an archive may be a mapped file; a fault in it is the caller's.
    Timing: a product takes no branch on its operands, so zero bytes cost what others do (measured by bench/run, not proved). It looks tables up by
-   their values; Inverse tests for 00, Read goes by the rows and marks, Verdict stops at the first tag that fails: nothing is constant-time.
+   their values; Inverse tests for 00, Read and Plan go by rows and marks, Verdict stops at the first tag that fails: nothing is constant-time.
 
    The bytes of an archive: 4 of packed sizes (the layout in 4 bits, n in 11, m in 5, places in 4, nodes in 3; then under layout 2 the tags in 4
    and a zero bit, under layout 1, which has one tag, five zero bits), the id from byte 4, 48 fill marks from byte 12 (that of node b, place p is
@@ -32,6 +32,7 @@
 #define SPAN_UNREADABLE 8      /* the filled rows do not determine the file */
 #define SPAN_MALFORMED 9       /* a message, or fields that no challenge has */
 #define SPAN_PROVES_NOTHING 11 /* span_verdict alone: the named rows cancel, so any box could answer the challenge; draw another */
+#define SPAN_NO_PLAN 12        /* span_plan alone: no thetas give the wanted rows */
 #define SPAN_REJECTED 255      /* span_verdict alone: no refusal */
 
 /* Lengths, exact ones, in bytes. */
@@ -92,6 +93,13 @@ uint8_t span_lose(uint8_t *archive, size_t archive_len, size_t node);
 uint8_t span_repair(uint8_t *archive, size_t archive_len, size_t target, const uint8_t *helpers, size_t helpers_len, size_t q,
                     const uint8_t *gammas, size_t gammas_len, const uint8_t *thetas, size_t thetas_len, uint8_t *scratch,
                     size_t scratch_len);
+
+/* The thetas by which span_repair, with these helpers, q and gammas, gives the places of any empty node the wanted rows, places*m bytes, row
+   after row. A repair block whose row is a combination of those before it gets the theta 00 for every place; so there is one plan, or none.
+   Of the archive m, places, nodes, marks and rows alone count, so the owner may plan on a small one that has the same. Gammas and thetas
+   are helpers*q*places bytes each. Refuses 3, 1, 2, 4, 5, 12 (some vector is orthogonal to every repair row and not to a wanted row). */
+uint8_t span_plan(const uint8_t *archive, size_t archive_len, const uint8_t *helpers, size_t helpers_len, size_t q,
+                  const uint8_t *gammas, size_t gammas_len, const uint8_t *rows, size_t rows_len, uint8_t *thetas, size_t thetas_len);
 
 /* The challenge to a node for 1 to 8 rising places, a coefficient each: (11*(count+1)+7)/8 bytes. Refuses 2 (unequal lists), 9,
    2 (output length). */

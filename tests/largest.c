@@ -9,10 +9,8 @@ static size_t tags;
 
 static void same_archive(const char *what) { expect(what, !memcmp(ours, theirs, ARCHIVE(tags))); }
 
-/* Open; Encode of each place of nodes 0 to 4; Repair of node 5 by them. */
-static void fill_all(size_t layout) {
-    static uint8_t blocks[SCRATCH(TAGS)];
-    uint8_t *scratch = lend(NULL, SCRATCH(tags));
+/* Open; Encode of each place of nodes 0 to 4. */
+static void fill_five(size_t layout) {
     answer("open", 0, span_open(layout, N, M, PLACES, NODES, tags, id, 8, ours, ARCHIVE(tags)));
     c_open(layout, tags, theirs);
     same_archive("the new archive");
@@ -23,12 +21,97 @@ static void fill_all(size_t layout) {
         c_encode(theirs, k, tag_key, row);
         same_archive("the archive after encode");
     }
+}
+
+/* Repair of node 5 by the others. */
+static void repair(void) {
+    static uint8_t blocks[SCRATCH(TAGS)];
+    uint8_t *scratch = lend(NULL, SCRATCH(tags));
     answer("repair", 0, span_repair(ours, ARCHIVE(tags), 5, helpers, HELPERS, Q, inputs.gammas, COEFFICIENTS, inputs.thetas, COEFFICIENTS,
                                     scratch, SCRATCH(tags)));
     c_repair(theirs, 5, helpers, blocks);
     expect("the repair blocks", !memcmp(scratch, blocks, SCRATCH(tags)));
     same_archive("the archive after repair");
     give_back("repair's scratch", scratch, SCRATCH(tags));
+}
+
+/* The thetas of a plan by some helpers, beside plain C; where it is refused, as they were lent. */
+static uint8_t *plan(unsigned expected, const uint8_t *by, size_t count, size_t q, const uint8_t *wanted) {
+    size_t len = count * q * PLACES;
+    uint8_t *thetas = lend(NULL, len), plain[COEFFICIENTS];
+    memcpy(plain, thetas, len);
+    answer("plain plan", expected, c_plan(theirs, by, count, q, wanted, plain));
+    answer("plan", expected, span_plan(ours, ARCHIVE(tags), by, count, q, inputs.gammas, len, wanted, PLACES * M, thetas, len));
+    expect("the thetas", !memcmp(thetas, plain, len));
+    same_archive("the archive after plan");
+    return thetas;
+}
+
+/* Repair of node 5 by such thetas, in a copy: its places hold the wanted rows, and are as Encode would have filled them. */
+static void repair_by(const uint8_t *by, size_t count, size_t q, const uint8_t *wanted, const uint8_t *thetas) {
+    static uint8_t encoded[ARCHIVE(TAGS)];
+    size_t len = count * q * PLACES;
+    uint8_t *copy = lend(ours, ARCHIVE(tags)), *scratch = lend(NULL, count * q * RECORD(tags));
+    memcpy(encoded, theirs, ARCHIVE(tags));
+    answer("repair by a plan", 0, span_repair(copy, ARCHIVE(tags), 5, by, count, q, inputs.gammas, len, thetas, len, scratch,
+                                              count * q * RECORD(tags)));
+    for (size_t k = 0; k < PLACES; k++) {
+        c_encode(encoded, 5 * PLACES + k, tag_key, wanted + k * M);
+        expect("a wanted row", !memcmp(copy + 18 + (5 * PLACES + k) * RECORD(tags) + N, wanted + k * M, M));
+    }
+    expect("the archive after a repair by a plan", !memcmp(copy, encoded, ARCHIVE(tags)));
+    give_back("the scratch of a repair by a plan", scratch, count * q * RECORD(tags));
+    give_back("the archive repaired by a plan", copy, ARCHIVE(tags));
+}
+
+/* A plan by five helpers, and the repair by it. The first Q blocks, and Q from `second` on, have independent rows; all others get zeros. */
+static void plan_and_repair(const uint8_t *by, size_t second, const uint8_t *wanted) {
+    static const uint8_t zeros[PLACES];
+    uint8_t *thetas = plan(0, by, HELPERS, Q, wanted);
+    for (size_t t = Q; t < HELPERS * Q; t++)
+        expect("the thetas of a block that depends", t - second < Q || !memcmp(thetas + t * PLACES, zeros, PLACES));
+    repair_by(by, HELPERS, Q, wanted, thetas);
+    give_back("plan's thetas", thetas, COEFFICIENTS);
+}
+
+/* One repair block, of node 0: for the multiples of its row by 1 to 8 the thetas are these numbers. With one byte changed there is no plan. */
+static void plan_by_one_block(void) {
+    uint8_t wanted[PLACES * M] = {0}, *thetas;
+    for (size_t l = 0; l < PLACES; l++)
+        for (size_t e = 0; e < PLACES * M; e++)
+            wanted[e] ^= span_multiply((uint8_t)(e / M + 1), span_multiply(inputs.gammas[l], inputs.table[l * M + e % M]));
+    thetas = plan(0, helpers, 1, 1, wanted);
+    for (size_t k = 0; k < PLACES; k++) expect("a multiple", thetas[k] == k + 1);
+    repair_by(helpers, 1, 1, wanted, thetas);
+    give_back("the thetas of one block", thetas, PLACES);
+    wanted[PLACES * M - 1] ^= 1;
+    give_back("the thetas of no plan", plan(12, helpers, 1, 1, wanted), PLACES);
+}
+
+/* An owner's row table, an archive at n = 3 with rows and marks alone, has the same plan. */
+static void plan_on_a_row_table(const uint8_t *wanted) {
+    enum { LENGTH = SPAN_ARCHIVE_BYTES(3, M, PLACES, NODES, 1) };
+    uint8_t *table = lend(NULL, LENGTH), *thetas = lend(NULL, COEFFICIENTS), *same = plan(0, helpers, HELPERS, Q, wanted);
+    answer("open of a row table", 0, span_open(1, 3, M, PLACES, NODES, 1, id, 8, table, LENGTH));
+    memcpy(table + 12, ours + 12, 6);
+    for (size_t k = 0; k < HELPERS * PLACES; k++) memcpy(table + 18 + k * (3 + M + 1) + 3, inputs.table + k * M, M);
+    answer("plan on a row table", 0, span_plan(table, LENGTH, helpers, HELPERS, Q, inputs.gammas, COEFFICIENTS, wanted, PLACES * M, thetas,
+                                               COEFFICIENTS));
+    expect("the thetas of a row table", !memcmp(thetas, same, COEFFICIENTS));
+    give_back("the row table", table, LENGTH);
+    give_back("the row table's thetas", thetas, COEFFICIENTS);
+    give_back("the archive's thetas", same, COEFFICIENTS);
+}
+
+/* Plans for node 5, while it is empty: by all nodes, by nodes named twice, by one block and by one node, which does not reach the rows. */
+static void plan_all(void) {
+    static const uint8_t twice[HELPERS] = {0, 0, 1, 1, 2};
+    const uint8_t *wanted = inputs.table + 5 * PLACES * M;
+    plan_and_repair(helpers, Q, wanted);
+    plan_and_repair(twice, 2 * Q, wanted);
+    plan_by_one_block();
+    give_back("the thetas of no plan by a node", plan(12, helpers, 1, Q, wanted), Q * PLACES);
+    plan_on_a_row_table(wanted);
 }
 
 static void setup(void) {
@@ -111,7 +194,9 @@ static void live(size_t layout, size_t with) {
     tags = with;
     ours = lend(NULL, ARCHIVE(tags));
     setup();
-    fill_all(layout);
+    fill_five(layout);
+    plan_all();
+    repair();
     audit(0);
     audit(5);
     for (size_t node = 0; node < NODES; node++) {

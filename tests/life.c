@@ -94,6 +94,117 @@ static void repair_by_one_named_twice(void) {
     give_back("its archive", archive, ARCHIVE(1));
 }
 
+/* Plans at the end of a life, where node 1 holds the rows 53 ca and 00 00, node 2 the rows f3 fe and 72 fb, and node 0 none: what is asked
+   for, the answer and the thetas, which are as they were lent where it is refused. */
+struct plan {
+    const char *what;
+    unsigned answer;
+    size_t helpers_len, q;
+    uint8_t helpers[2];
+    const uint8_t *gammas;
+    uint8_t rows[4], thetas[8];
+};
+
+static const uint8_t apart[4] = {0x01, 0x00, 0x00, 0x01};
+static const struct plan plans[] = {
+    {"plan from node 2", 0, 1, 2, {2}, apart, {0x01, 0x00, 0x02, 0x03}, {0xea, 0x66, 0x82, 0xe8}},
+    {"plan from both, two blocks depend", 0, 2, 2, {1, 2}, gammas, {0x01, 0x00, 0x02, 0x03}, {0xba, 0x95, 0x00, 0x00, 0x4d, 0xe4}},
+    {"plan from node 1, rows of its own", 0, 1, 2, {1}, apart, {0x53, 0xca, 0xa6, 0x8f}, {0x01, 0x02}},
+    {"plan, a helper named twice", 0, 2, 1, {2, 2}, apart, {0x00, 0x00, 0x01, 0x00}, {0x00, 0xea, 0x00, 0x82}},
+    {"plan from node 1, other rows", 12, 1, 2, {1}, apart, {0x01, 0x00, 0x02, 0x03}, {0xa5, 0xa5, 0xa5, 0xa5}},
+    {"plan from node 1, the last row another", 12, 1, 2, {1}, apart, {0x53, 0xca, 0x02, 0x03}, {0xa5, 0xa5, 0xa5, 0xa5}}};
+
+static size_t theta_count(const struct plan *p) { return SPAN_COEFFICIENT_BYTES(p->helpers_len, p->q, 2); }
+
+/* The thetas of a plan on an archive, lent. */
+static uint8_t *plan_on(const uint8_t *archive, size_t len, const struct plan *p) {
+    size_t count = theta_count(p);
+    uint8_t *planned = lend(NULL, count);
+    answer(p->what, p->answer, span_plan(archive, len, p->helpers, p->helpers_len, p->q, p->gammas, count, p->rows, 4, planned, count));
+    expect("its thetas", !memcmp(planned, p->thetas, count));
+    return planned;
+}
+
+/* Repair of node 0 by a plan, in a copy of the archive: its places hold the wanted rows. */
+static void repair_by(const uint8_t *archive, size_t tags, const struct plan *p, const uint8_t *planned) {
+    size_t count = theta_count(p), len = SPAN_SCRATCH_BYTES(p->helpers_len, p->q, 3, 2, tags);
+    uint8_t *copy = lend(archive, ARCHIVE(tags)), *scratch = lend(NULL, len);
+    answer("repair by a plan", 0, span_repair(copy, ARCHIVE(tags), 0, p->helpers, p->helpers_len, p->q, p->gammas, count, planned, count,
+                                              scratch, len));
+    expect("its marks", copy[12] == 0xfc);
+    for (size_t k = 0; k < 2; k++)
+        expect("its rows", !memcmp(copy + 18 + k * SPAN_RECORD_BYTES(3, 2, tags) + 3, p->rows + 2 * k, 2));
+    give_back("the scratch of a repair by a plan", scratch, len);
+    give_back("the archive after a repair by a plan", copy, ARCHIVE(tags));
+}
+
+/* Refused plans, in the order of refusals; each but the last has a reason for a later refusal too. The bytes that the archive lacks, the
+   number of helpers, q, the lengths of gammas, rows and thetas. The wanted rows are out of node 1's reach, and of an empty one's. */
+static const struct {
+    const char *what;
+    unsigned answer;
+    size_t missing, helpers_len, q, gammas_len, rows_len, thetas_len;
+    uint8_t helpers[6];
+} refusals[] = {{"plan on a short archive, no helper", 3, 1, 0, 1, 0, 4, 0, {0}},
+                {"plan, no helper", 1, 0, 0, 1, 1, 4, 1, {0}},
+                {"plan, six helpers", 1, 0, 6, 1, 12, 4, 11, {1, 1, 1, 1, 1, 3}},
+                {"plan, q of 0", 1, 0, 1, 0, 0, 3, 0, {1}},
+                {"plan, q of 9", 1, 0, 1, 9, 18, 5, 18, {1}},
+                {"plan, q beyond all", 1, 0, 2, SIZE_MAX, 4, 4, 4, {1, 1}},
+                {"plan, a gamma short", 2, 0, 1, 2, 3, 4, 4, {3}},
+                {"plan, gammas and thetas short", 2, 0, 1, 2, 3, 4, 3, {3}},
+                {"plan, a row byte too many", 2, 0, 1, 2, 4, 5, 4, {3}},
+                {"plan, a theta short", 2, 0, 1, 2, 4, 4, 3, {255}},
+                {"plan, an empty helper and no helper", 4, 0, 2, 2, 8, 4, 8, {0, 3}},
+                {"plan, an empty helper", 5, 0, 1, 2, 4, 4, 4, {0}},
+                {"plan, an empty helper behind another", 5, 0, 2, 2, 8, 4, 8, {1, 0}},
+                {"plan, rows out of reach", 12, 0, 2, 2, 8, 4, 8, {1, 1}}};
+
+static void refuse_plans(const uint8_t *archive, size_t len) {
+    static const uint8_t rows[5] = {0x01, 0x00, 0x02, 0x03};
+    uint8_t ones[18], as_lent[18];
+    memset(ones, 0x01, 18);
+    memset(as_lent, 0xa5, 18);
+    for (size_t i = 0; i < sizeof refusals / sizeof *refusals; i++) {
+        size_t count = refusals[i].thetas_len;
+        uint8_t *planned = lend(NULL, count);
+        answer(refusals[i].what, refusals[i].answer,
+               span_plan(archive, len - refusals[i].missing, refusals[i].helpers, refusals[i].helpers_len, refusals[i].q, ones,
+                         refusals[i].gammas_len, rows, refusals[i].rows_len, planned, count));
+        expect("what a refused plan left", !memcmp(planned, as_lent, count));
+        give_back("a refused plan's thetas", planned, count);
+    }
+}
+
+static void plan_all(const uint8_t *archive, size_t tags) {
+    uint8_t *copy = lend(archive, ARCHIVE(tags));
+    for (size_t i = 0; i < sizeof plans / sizeof *plans; i++) {
+        uint8_t *planned = plan_on(copy, ARCHIVE(tags), &plans[i]);
+        if (!plans[i].answer) repair_by(copy, tags, &plans[i], planned);
+        give_back("a plan's thetas", planned, theta_count(&plans[i]));
+    }
+    refuse_plans(copy, ARCHIVE(tags));
+    expect("the archive after its plans", !memcmp(copy, archive, ARCHIVE(tags)));
+    give_back("the archive that was planned on", copy, ARCHIVE(tags));
+}
+
+/* A plan made on an owner's row table serves the boxes' archive. The table is an archive of layout 1 of which only sizes, marks and rows are
+   as in that of three tags. */
+static void plan_on_a_row_table(void) {
+    uint8_t *table = lend(NULL, ARCHIVE(1));
+    memcpy(table, lived, 4);
+    memcpy(table + 12, lived + 12, 6);
+    for (size_t k = 2; k < 6; k++) memcpy(table + 18 + k * 6 + 3, lived_of_three + 18 + k * 8 + 3, 2);
+    for (size_t i = 0; i < sizeof plans / sizeof *plans; i++) {
+        uint8_t *planned = plan_on(table, ARCHIVE(1), &plans[i]), *same = plan_on(lived_of_three, ARCHIVE(3), &plans[i]);
+        expect("the thetas planned on a row table", !memcmp(planned, same, theta_count(&plans[i])));
+        if (!plans[i].answer) repair_by(lived_of_three, 3, &plans[i], planned);
+        give_back("the table's thetas", planned, theta_count(&plans[i]));
+        give_back("the archive's thetas", same, theta_count(&plans[i]));
+    }
+    give_back("the row table", table, ARCHIVE(1));
+}
+
 /* Verdict on a response to a challenge for some places, with the rows that the challenged node has. */
 static void judge(const char *what, unsigned expected, size_t tags, const uint8_t *message, size_t places, const uint8_t *response) {
     static const uint8_t rows[3][4] = {{0x00}, {0x53, 0xca, 0x00, 0x00}, {0xf3, 0xfe, 0x72, 0xfb}};
@@ -202,9 +313,11 @@ int main(void) {
     lived_of_one[0] = 0x20, lived_of_one[3] = 0x62;
     values();
     repair_by_one_named_twice();
+    plan_on_a_row_table();
     for (size_t k = 0; k < sizeof lives / sizeof *lives; k++) {
         uint8_t *archive = live(&lives[k]);
         audit(&lives[k], archive);
+        plan_all(archive, lives[k].tags);
         list_and_read(archive, ARCHIVE(lives[k].tags));
         give_back("the archive", archive, ARCHIVE(lives[k].tags));
     }

@@ -31,6 +31,10 @@ static uint8_t repair(void) {
     return span_repair(archive, ARCHIVE(TAGS), HELPERS, helpers, HELPERS, Q, inputs.gammas, COEFFICIENTS, inputs.thetas, COEFFICIENTS,
                        scratch, SCRATCH(TAGS));
 }
+static uint8_t plan(void) {
+    return span_plan(archive, ARCHIVE(TAGS), helpers, HELPERS, Q, inputs.gammas, COEFFICIENTS, inputs.table + HELPERS * PLACES * M,
+                     PLACES * M, out, COEFFICIENTS);
+}
 static uint8_t challenge(void) { return span_challenge(0, items, PLACES, inputs.coefficients, PLACES, message, MESSAGE); }
 static uint8_t prove(void) {
     return span_prove(archive, ARCHIVE(TAGS), mask_key, 32, inputs.auxiliary, AUXILIARY(TAGS), seed, 11, message, MESSAGE, response,
@@ -48,9 +52,10 @@ static uint8_t lose(void) { return span_lose(archive, ARCHIVE(TAGS), 0); }
 static const struct {
     const char *name;
     uint8_t (*call)(void);
-} operations[] = {{"multiply", multiply}, {"inverse", inverse},     {"block", block},         {"vector", vector}, {"open", open_},
-                  {"setup", setup},       {"encode", encode},       {"repair", repair},       {"challenge", challenge}, {"prove", prove},
-                  {"verdict", verdict},   {"unmask", unmask},       {"inventory", inventory}, {"read", read_},    {"lose", lose}};
+} operations[] = {{"multiply", multiply}, {"inverse", inverse},     {"block", block},   {"vector", vector},
+                  {"open", open_},        {"setup", setup},         {"encode", encode}, {"plan", plan},
+                  {"repair", repair},     {"challenge", challenge}, {"prove", prove},   {"verdict", verdict},
+                  {"unmask", unmask},     {"inventory", inventory}, {"read", read_},    {"lose", lose}};
 
 /* Aligned, so that no depth hangs on where the linker puts it. */
 static _Alignas(64) uint8_t stack[1 << 18];

@@ -1,5 +1,6 @@
 -- Laws of a chain of refusals. Assumes nothing.
 use mathlib.Core.Path.{_≡_, refl, sym, ap, ap₂, _∙_}
+use mathlib.Core.Logic.{_≢_}
 use mathlib.Core.Bool.{Bool, true, false, _||_}
 use mathlib.Core.List.{List, [], _∷_}
 use Prim.Native.Nat.{ℕ, _≤_}
@@ -11,6 +12,7 @@ use Rattle.lists.proofs.AnyLaws.{none-at, orAll, any-of}
 use Rattle.answer.specs.declared.Refusal.{Refusal}
 use Rattle.answer.specs.declared.Outcome.{Outcome}
 use Rattle.answer.specs.declared.Outcome.the-variants.{Done, Refused}
+use Rattle.answer.specs.Numbers.{refusalNumber}
 use Rattle.answer.specs.Refusals.{refuse, afterwards, differs, outside}
 
 -- a test that holds ends the chain, and one that fails hands it on
@@ -84,3 +86,9 @@ never-both p q = let x : _≡_ {A = ℕ} 0 1 = cc in omega arith
 
 pub same-refusal : {o : Outcome} {r r′ : Refusal} → o ≡ Refused r → o ≡ Refused r′ → r ≡ r′
 same-refusal p q = cc
+
+-- a refusal of another number came after
+pub skipped : (b : Bool) (r : Refusal) (next : Outcome) {r′ : Refusal} → refusalNumber r ≢ refusalNumber r′ → refuse b r next ≡ Refused r′ → next ≡ Refused r′
+unfolding refuse
+skipped true r next n e = absurd (n (ap refusalNumber (same-refusal refl e)))
+skipped false r next n e = e

@@ -26,6 +26,8 @@ pub enum Refusal {
     Malformed,
     // 11: a challenge whose combined row is zero.
     ProvesNothing,
+    // 12: wanted rows that no thetas give.
+    NoPlan,
 }
 
 pub enum Outcome {
@@ -55,6 +57,7 @@ pub fn refusal_number(r: Refusal) -> u8
         Refusal::Unreadable => 8,
         Refusal::Malformed => 9,
         Refusal::ProvesNothing => 11,
+        Refusal::NoPlan => 12,
     }
 }
 

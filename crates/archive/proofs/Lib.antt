@@ -10,6 +10,7 @@ pub mod RepairedLaws
 pub mod LoseLaws
 pub mod BlockLaws
 pub mod ReadLaws
+pub mod PlanLaws
 pub mod InventoryLaws
 pub mod ListingLaws
 pub mod ProveCheckLaws

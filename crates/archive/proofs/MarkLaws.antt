@@ -5,13 +5,16 @@ use mathlib.Core.Bool.{Bool}
 use mathlib.Core.List.{List}
 use native.Mathlib.Omega.{arith}
 use lib.Dec.{eqb}
+use lib.ListN.{length}
 use Rattle.lists.specs.Lists.{at, put, over, bit}
-use Rattle.lists.proofs.PutLaws.{put-above}
+use Rattle.lists.proofs.PutLaws.{put-above, put-at, grid-below}
 use Rattle.lists.proofs.OverLaws.{over-within, over-below, over-above, over-same}
 use Rattle.bits.specs.Fields.{number, packed, bitAt, fieldAt}
 use Rattle.bits.proofs.NumberLaws.{bit-back, number-low, number-same}
-use Rattle.bits.proofs.PackLaws.{packed-at}
-use Rattle.archive.specs.Layout.{markAt, withMarks}
+use Rattle.bits.proofs.PackLaws.{packed-at, packed-bit}
+use Rattle.sizes.specs.declared.Sizes.{Sizes}
+use Rattle.sizes.specs.Lengths.{recordLength, recordStart}
+use Rattle.archive.specs.Layout.{markAt, withMarks, stored}
 
 -- ---- reading
 
@@ -66,3 +69,19 @@ marks-kept s t k count v f j h e w =
 pub marks-written : (mark : ℕ → Bool) (s : List ℕ) {t : List ℕ} {j : ℕ} → j ≡ 6 → t ≡ put j 12 (at (packed 6 mark)) s → t ≡ withMarks mark s
 unfolding withMarks
 marks-written mark s q e = rw q at e
+
+-- ---- reading after a store
+
+pub stored-mark : (z : Sizes) (v : Bool) (k count : ℕ) (rec : ℕ → ℕ → ℕ) (s : List ℕ) (i : ℕ) → 18 ≤ length s → i < 48
+    → markAt (stored z v k count rec s) i ≡ newMarks s k count v i
+unfolding stored withMarks markAt bitAt
+stored-mark z v k count rec s i long h =
+    let q : (96 + i) / 8 ≡ 12 + i / 8 = omega arith in
+    let r : (96 + i) % 8 ≡ i % 8 = omega arith in
+    rw (
+      q,
+      r,
+      grid-below count (recordLength z) (recordStart z k) rec (withMarks (newMarks s k count v) s) (12 + i / 8) (omega arith),
+      put-at 6 12 (at (packed 6 (newMarks s k count v))) s (i / 8) (omega arith) (omega arith),
+    )
+    (packed-bit 6 (newMarks s k count v) i (omega arith))

@@ -1,18 +1,18 @@
 -- The file that solves for the places taken is fixed. Assumes nothing.
 use Prim.Native.Nat.{ℕ, _+_, _-_, _*_, _/_, _%_, _<_, _≤_}
-use mathlib.Core.Path.{_≡_, sym, ap, ap₂, _∙_, subst}
+use mathlib.Core.Path.{_≡_, sym, ap₂, _∙_, subst}
 use mathlib.Core.Logic.{_≢_}
 use mathlib.Core.Bool.{Bool, true}
 use mathlib.Core.List.{List}
 use native.Mathlib.Decide.{ℕ-discrete}
 use native.Mathlib.Nat.{div-add-mod', mod-lt, div-lt-iff-lt-mul, mul-le-mul-right}
 use native.Mathlib.Omega.{arith}
-use lib.Bits.{bitXor, xor-zero-r, xor-self, xor-lt}
+use lib.Bits.{xor-self, xor-lt}
 use lib.ListN.{length}
 use lib.Seq.{ext-getD}
 use Rattle.lists.specs.Lists.{at, Bytes}
 use Rattle.field.specs.Field.{plus}
-use Rattle.field.proofs.XorLaws.{xor-cancel}
+use Rattle.field.proofs.XorLaws.{xor-equal}
 use Rattle.sizes.specs.declared.Sizes.{Sizes}
 use Rattle.vector.specs.Vectors.{product}
 use Rattle.vector.proofs.VectorLaws.{product-same, product-right}
@@ -37,9 +37,6 @@ blind-same z f g r r′ marks rows w =
     }
 
 -- ---- the solution
-
-equal : (a b : ℕ) → bitXor a b ≡ 0 → a ≡ b
-equal a b q = sym (xor-zero-r a) ∙ ap (bitXor a) (sym q) ∙ xor-cancel a b
 
 -- the bytes of a column
 column-low : (z : Sizes) (xs : List ℕ) → length xs ≡ fileLength z → Bytes xs
@@ -81,4 +78,4 @@ module _ (z : Sizes) (s out file : List ℕ) (w : Solved z s out) (low : 3 ≤ z
       let pos : 0 < d = omega arith in
       let hi : i < z .m * d = omega (arith, w .size) in
       subst (λ (x : ℕ). at out x ≡ at file x) (div-add-mod' i d)
-      (equal _ _ (gap-zero (i % d) (mod-lt i pos) (i / d) (div-lt-iff-lt-mul {k = d} pos .1 hi))))
+      (xor-equal (gap-zero (i % d) (mod-lt i pos) (i / d) (div-lt-iff-lt-mul {k = d} pos .1 hi))))

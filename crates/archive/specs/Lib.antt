@@ -9,3 +9,4 @@ pub mod Prove
 pub mod Read
 pub mod Inventory
 pub mod Repaired
+pub mod Plan

@@ -11,25 +11,44 @@ use Rattle.answer.specs.declared.Refusal.the-variants.{Size, Length, NoSuchPlac
 use Rattle.answer.specs.Refusals.{refuse, differs, outside}
 use Rattle.field.specs.Field.{sum, times}
 use Rattle.sizes.specs.declared.Sizes.{Sizes}
-use Rattle.sizes.specs.Lengths.{recordLength, placeNumber}
+use Rattle.sizes.specs.Lengths.{recordLength, placeNumber, helpersMost, sentMost}
 use Rattle.vector.specs.Vectors.{mixed}
 use Rattle.archive.specs.Layout.{byteIn, stored}
+
+-- ---- what is asked of the helpers
+
+-- the number of helpers, or of repair blocks that each sends, is outside its range
+abbrev pub countsOutside : (helpers : List ℕ) (q : ℕ) → Bool
+countsOutside helpers q = anyOf (outside 1 helpersMost (length helpers) ∷ outside 1 sentMost q ∷ [])
+
+-- how many gammas there are, and how many thetas
+abbrev pub coefficientCount : (z : Sizes) (helpers : List ℕ) (q : ℕ) → ℕ
+coefficientCount z helpers q = length helpers * q * z .places
+
+-- a helper is no node
+abbrev pub helperMissing : (z : Sizes) (helpers : List ℕ) → Bool
+helperMissing z helpers = anyBelow (length helpers) (λ i. leb (z .nodes) (at helpers i))
+
+-- a place of a helper is empty
+abbrev pub helperEmpty : (z : Sizes) (filled : ℕ → ℕ → Bool) (helpers : List ℕ) → Bool
+helperEmpty z filled helpers = anyBelow (length helpers) (λ i. anyBelow (z .places) (λ l. not (filled (at helpers i) l)))
+
+-- ---- refusals and bytes
 
 -- refuses, after 3: 1, 2, 4, 6, 5; `scratch` is the length of that buffer
 abbrev pub repairFor :
     (z : Sizes) (filled : ℕ → ℕ → Bool) (target : ℕ) (helpers : List ℕ) (q : ℕ) (gammas thetas : List ℕ) (scratch : ℕ) → Outcome
 repairFor z filled target helpers q gammas thetas scratch =
-    let P : ℕ = length helpers in
-    refuse (anyOf (outside 1 5 P ∷ outside 1 8 q ∷ [])) Size
+    refuse (countsOutside helpers q) Size
     (refuse
     (anyOf
-    (differs (length gammas) (P * q * z .places)
-    ∷ differs (length thetas) (P * q * z .places)
-    ∷ differs scratch (P * q * recordLength z)
+    (differs (length gammas) (coefficientCount z helpers q)
+    ∷ differs (length thetas) (coefficientCount z helpers q)
+    ∷ differs scratch (length helpers * q * recordLength z)
     ∷ [])) Length
-    (refuse (anyOf (leb (z .nodes) target ∷ anyBelow P (λ i. leb (z .nodes) (at helpers i)) ∷ [])) NoSuchPlace
+    (refuse (anyOf (leb (z .nodes) target ∷ helperMissing z helpers ∷ [])) NoSuchPlace
     (refuse (anyBelow (z .places) (λ k. filled target k)) PlaceFilled
-    (refuse (anyBelow P (λ i. anyBelow (z .places) (λ l. not (filled (at helpers i) l)))) PlaceEmpty
+    (refuse (helperEmpty z filled helpers) PlaceEmpty
     Done))))
 
 -- coefficient l of repair block (i,j), of the gammas or of the thetas, all counted from 0

@@ -12,7 +12,7 @@ use Rattle.lists.proofs.CountLaws.{howMany-same, howMany-more, howMany-zero, ho
 use Rattle.field.specs.Field.{plus}
 use Rattle.vector.specs.Taken.{Spanned, only, Combined}
 use Rattle.vector.proofs.SpanLaws.{spanned-same, spanned-zero}
-use Rattle.vector.proofs.TakenLaws.{combined-same}
+use Rattle.vector.proofs.TakenLaws.{only-byte, combined-same}
 use Rattle.linear.specs.PrivateElimination.{Matrix, cells, Independent}
 use Rattle.linear.proofs.AlikeLaws.{independent-same}
 use Rattle.linear.proofs.LastRowLaws.{independent-more}
@@ -53,13 +53,6 @@ module _ (m : ℕ) (row : Matrix) (candidate : ℕ → Bool) where
     abbrev w : Choice m row candidate k c
     w = P .choice
 
-    only-byte : (taken : ℕ → Bool) (j i : ℕ) → only taken row j i < 256
-    only-byte taken j i = go (taken j)
-      where
-        go : (t : Bool) → pick t (row j i) 0 < 256
-        go true = low j i
-        go false = omega arith
-
     -- ---- row k is not taken
 
     module _ (d : Chosen) (count : d .count ≡ c .count) (numbers : d .numbers ≡ c .numbers) (consulted : d .consulted ≡ howMany (k + 1) candidate)
@@ -88,7 +81,7 @@ module _ (m : ℕ) (row : Matrix) (candidate : ℕ → Bool) where
                   consulted = consulted;
                 };
             basis =
-                basis-kept k m (only (w .taken) row) (cells e) (P .basis) (only-byte (w .taken))
+                basis-kept k m (only (w .taken) row) (cells e) (P .basis) (only-byte row low (w .taken))
                 (λ i l. ap (λ (t : Bool). pick t (row k i) 0) (w .later k (omega arith)));
           }
 
@@ -174,7 +167,7 @@ module _ (m : ℕ) (row : Matrix) (candidate : ℕ → Bool) where
                   };
               basis =
                   basis-more k m (only (w .taken) row) (only now-taken row) (cells e) (cells e′) out p (P .basis) cleared′ X width there (at-p .zeros)
-                  (at-p .here there) (only-byte now-taken) (λ j i h l. ap (λ (t : Bool). pick t (row j i) 0) (sym (old j h)));
+                  (at-p .here there) (only-byte row low now-taken) (λ j i h l. ap (λ (t : Bool). pick t (row j i) 0) (sym (old j h)));
             }
           where
             cleared′ : Cleared m m (cells e) (only now-taken row k) out

@@ -14,11 +14,11 @@ use Rattle.vector.specs.Taken.{Spanned, only}
 
 module _ (taken : ℕ → Bool) (numbers : ℕ → ℕ) (row : ℕ → ℕ → ℕ) where
   -- the taken rows below k are listed in order
-  abbrev Lists : ℕ → Type 0
+  abbrev pub Lists : ℕ → Type 0
   Lists k = (j : ℕ) → j < k → taken j ≡ true → numbers (howMany j taken) ≡ j
 
   -- the coefficient of a taken row is that of the row listed
-  spread : (y : ℕ → ℕ) (i k : ℕ) → Lists k
+  pub spread : (y : ℕ → ℕ) (i k : ℕ) → Lists k
       → mixed k (λ j. y (howMany j taken)) (only taken row) i ≡ mixed (howMany k taken) y (λ t. row (numbers t)) i
   unfolding mixed howMany
   spread y i zero listed = sym (sum-none _) ∙ sum-none _

@@ -75,37 +75,39 @@ module _ (count m : ℕ) (row : Matrix) (candidate : ℕ → Bool) (c : Chosen) 
   pub listed-low : (j : ℕ) → taken j ≡ true → howMany j taken < c .count
   listed-low j e = omega (arith, howMany-less j (chosen .end) taken (taken-low j e) e, choice .number)
 
-  listed-taken : (t : ℕ) → t < c .count → (j : ℕ) × (taken j ≡ true) × (at (c .numbers) t ≡ j)
+  pub listed-taken : (t : ℕ) → t < c .count → (taken (at (c .numbers) t) ≡ true) × (howMany (at (c .numbers) t) taken ≡ t)
   listed-taken t h =
       let w = passing (chosen .end) t taken (omega (arith, choice .number)) in
-      (w .0, w .2, ap (at (c .numbers)) (sym (w .3)) ∙ choice .listed (w .0) (w .1) (w .2))
+      let is : w .0 ≡ at (c .numbers) t = sym (ap (at (c .numbers)) (sym (w .3)) ∙ choice .listed (w .0) (w .1) (w .2)) in
+      subst (λ (j : ℕ). (taken j ≡ true) × (howMany j taken ≡ t)) is (w .2, w .3)
+
+  -- all rows taken are listed
+  pub counted-all : howMany count taken ≡ c .count
+  counted-all = howMany-stop (chosen .end) count taken (chosen .there) (choice .later) ∙ sym (choice .number)
 
   -- what is orthogonal to the rows taken, and to those listed
   listed-zero : (v : ℕ → ℕ) → ((j : ℕ) → taken j ≡ true → product m (row j) v ≡ 0) → (t : ℕ) → t < c .count → product m (listedRows row c t) v ≡ 0
-  listed-zero v zeros t h =
-      let w = listed-taken t h in
-      ap (λ (j : ℕ). product m (row j) v) (w .2) ∙ zeros (w .0) (w .1)
+  listed-zero v zeros t h = zeros (at (c .numbers) t) (listed-taken t h .0)
 
   taken-zero : (v : ℕ → ℕ) → ((t : ℕ) → t < c .count → product m (listedRows row c t) v ≡ 0) → (j : ℕ) → taken j ≡ true → product m (row j) v ≡ 0
   taken-zero v zeros j e = ap (λ (k : ℕ). product m (row k) v) (sym (taken-listed j e)) ∙ zeros (howMany j taken) (listed-low j e)
 
+  -- ---- fewer than m rows were taken
+
+  -- then there were no more rows
+  all-seen : c .count < m → chosen .end ≡ count
+  all-seen h = ⊎-elim (λ (e : chosen .end ≡ count). e) (λ (e : c .count ≡ m). absurd (omega arith)) (chosen .ended)
+
+  -- and a vector that is orthogonal to those taken is orthogonal to all candidates
+  pub candidates-zero : c .count < m → (v : ℕ → ℕ) → ((t : ℕ) → t < c .count → product m (listedRows row c t) v ≡ 0)
+      → (k : ℕ) → k < count → candidate k ≡ true → product m (row k) v ≡ 0
+  candidates-zero h v zeros k l =
+      candidate-zero m row candidate (chosen .end) taken (choice .takes) v (λ j b. taken-zero v zeros j) k (omega (arith, l, all-seen h))
+
   module _ (t : Matrix) (rank : ℕ) (reduced : Reduces (c .count) m (listedRows row c) t rank) where
-    -- ---- rank below m
-
-    -- then there were no more rows
-    all-seen : rank < m → chosen .end ≡ count
-    all-seen h =
-        ⊎-elim
-        (λ (e : chosen .end ≡ count). e)
-        (λ (e : c .count ≡ m). absurd (omega (arith, h, reduced .independent .1 (choice .independent))))
-        (chosen .ended)
-
-    -- and the vector that is orthogonal to those taken is orthogonal to all candidates
-    pub candidates-zero : (h : rank < m) (k : ℕ) → k < count → candidate k ≡ true → product m (row k) (reduced .blind h .x) ≡ 0
-    candidates-zero h k l =
-        let o = reduced .blind h in
-        candidate-zero m row candidate (chosen .end) taken (choice .takes) (o .x) (λ j b. taken-zero (o .x) (o .zero-products) j) k
-        (omega (arith, l, all-seen h))
+    -- as many as the rank says
+    pub count-ranked : rank ≡ c .count
+    count-ranked = reduced .independent .1 (choice .independent)
 
     -- ---- rank m
 

@@ -1,6 +1,6 @@
 -- What Repair's answer tells, and what it writes: the repair blocks, and the target's marks and records. Assumes nothing.
 use Prim.Native.Nat.{ℕ, _+_, _*_, _/_, _%_, _<_, _≤_}
-use mathlib.Core.Path.{_≡_, sym, ap, ap₂, _∙_}
+use mathlib.Core.Path.{_≡_, sym, ap, _∙_}
 use mathlib.Core.Bool.{Bool, true, false, _||_}
 use mathlib.Core.List.{List}
 use native.Mathlib.Nat.{mul-le-mul, mul-le-mul-right, div-add-mod', div-lt-iff-lt-mul}
@@ -13,17 +13,18 @@ use Rattle.lists.proofs.AnyLaws.{none-at, any-below, or-false}
 use Rattle.lists.proofs.PutLaws.{grid-same, grid-all, flat-at}
 use Rattle.answer.specs.Refusals.{Passed, outside}
 use Rattle.answer.proofs.RefusalLaws.{accepted, same, inside}
-use Rattle.field.specs.Field.{times}
-use Rattle.field.proofs.SumLaws.{sum-same, sum-rows}
+use Rattle.field.proofs.SumLaws.{sum-same}
 use Rattle.sizes.specs.declared.Sizes.{Sizes}
 use Rattle.vector.specs.Vectors.{mixed}
+use Rattle.vector.proofs.VectorLaws.{mixed-vectors}
 use Rattle.sizes.proofs.SizeLaws.{Ranged}
 use Rattle.sizes.specs.Lengths.{recordLength, archiveLength, recordStart, placeNumber, recordMost}
 use Rattle.archive.specs.Layout.{sizesOf, idOf, markAt, byteIn, badArchive, withMarks, stored}
 use Rattle.archive.specs.Calls.{repair, answerFor, archiveAnswer, effectFor}
-use Rattle.archive.specs.Repair.{coefficient, repairByte, targetByte, scratchMade}
+use Rattle.archive.specs.Repair.{repairByte, targetByte, scratchMade}
 use Rattle.sizes.proofs.PlaceLaws.{number-low, count-low, record-fits}
 use Rattle.archive.proofs.GoodArchiveLaws.{good-sizes, good-length}
+use Rattle.archive.proofs.RepairedLaws.{target-mixed}
 
 -- ---- sizes
 
@@ -193,15 +194,11 @@ module _ (z : Sizes) (s helpers : List ℕ) (q : ℕ) (gammas thetas : List ℕ)
   target-made : (k e : ℕ) {made : List ℕ} → 1 ≤ q → e < recordLength z → made ≡ scratchMade z s helpers q gammas
       → mixed (length helpers * q) (λ t. at thetas (t * z .places + k)) (λ t e. at made (t * recordLength z + e)) e
       ≡ targetByte z s helpers q gammas thetas k e
-  unfolding mixed targetByte scratchMade
+  unfolding scratchMade
   target-made k e {made = made} low he blocks =
-      sum-same (length helpers * q) _ (λ t. times (coefficient z q thetas (t / q) (t % q) k) (repairByte z s helpers q gammas (t / q) (t % q) e))
-      (λ t h.
-      let c : t * z .places + k ≡ (t / q * q + t % q) * z .places + k = rw (div-add-mod' t q) in
-      let b : at made (t * recordLength z + e) ≡ repairByte z s helpers q gammas (t / q) (t % q) e =
-      ap (λ (l : List ℕ). at l (t * recordLength z + e)) blocks ∙ flat-at (length helpers * q) (recordLength z) _ t e h he in
-      ap₂ times (ap (at thetas) c) b)
-      ∙ sum-rows (length helpers) q (λ i j. times (coefficient z q thetas i j k) (repairByte z s helpers q gammas i j e)) low
+      mixed-vectors (length helpers * q) _ _ (λ t. repairByte z s helpers q gammas (t / q) (t % q)) e
+      (λ t h. ap (λ (l : List ℕ). at l (t * recordLength z + e)) blocks ∙ flat-at (length helpers * q) (recordLength z) _ t e h he)
+      ∙ target-mixed z s helpers q gammas thetas k e low
 
   -- the marks set, and then the records
   target-effect : (target scratch : ℕ) → grid (z .places) (recordLength z) (recordStart z (target * z .places)) (targetByte z s helpers q gammas thetas)

@@ -26,7 +26,7 @@ use sizes::record_length;
 use sizes::record_start;
 
 // Whether a helper is no node.
-fn any_missing(helpers: &[u8], nodes: usize) -> bool
+pub fn any_missing(helpers: &[u8], nodes: usize) -> bool
     ensures { λ r. ⌜ r ≡ anyBelow (length (now (helpers .entry))) (λ i. leb nodes (at (now (helpers .entry)) i)) ⌝ }
 {
     for i in 0..helpers.len() {
@@ -54,7 +54,7 @@ fn any_place(archive: &[u8], z: Sizes, node: usize, filled: bool) -> bool
 }
 
 // Whether a place of a helper is empty.
-fn any_helper_empty(archive: &[u8], z: Sizes, helpers: &[u8]) -> bool
+pub fn any_helper_empty(archive: &[u8], z: Sizes, helpers: &[u8]) -> bool
     requires { ⌜ (sizesOutside z ≡ false)
         × (headerLength ≤ length (now archive))
         × (anyBelow (length (now helpers)) (λ i. leb (z .nodes) (at (now helpers) i)) ≡ false) ⌝ }
@@ -94,7 +94,7 @@ fn repair_check(
     }
     let z = sizes_in(archive);
     let p = helpers.len();
-    if answer::outside(1, 5, p) | answer::outside(1, 8, q) {
+    if answer::outside(1, sizes::HELPERS_MOST, p) | answer::outside(1, sizes::SENT_MOST, q) {
         return Outcome::Refused(Refusal::Size);
     }
     let count = p * q * z.places;

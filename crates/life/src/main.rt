@@ -5,6 +5,7 @@ mod bad;
 mod coding_refused;
 mod living;
 mod opening;
+mod plans;
 mod proving_refused;
 mod reading_refused;
 
@@ -15,4 +16,5 @@ fn main() {
     coding_refused::run();
     proving_refused::run();
     reading_refused::run();
+    plans::run();
 }

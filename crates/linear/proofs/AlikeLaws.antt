@@ -61,6 +61,8 @@ module _ (k m : ℕ) (a b : Matrix) (same : Alike k m a b) where
         vanishing = λ q. vanishing-same (R .vanishing q);
         solution = λ q x d bytes low h. R .solution q x d bytes low (λ j l. row-same x j l ∙ h j l);
         solves = λ q r d low j l. sym (row-same _ j l) ∙ R .solves q r d low j l;
+        rest = λ i c h l b. sym (sum-of-rows-same (t i) c b) ∙ R .rest i c h l b;
+        whole = R .whole;
       }
 
 -- rank m: v is a combination of the rows, as the unit vectors are

@@ -7,3 +7,4 @@ pub mod ArrayLaws
 pub mod RowStoreLaws
 pub mod AlikeLaws
 pub mod LastRowLaws
+pub mod TurnedLaws

@@ -6,22 +6,18 @@ use native.Mathlib.Nat.{eq-or-lt-of-le, le-of-suc-le-suc, not-suc-le-zero}
 use native.Mathlib.Omega.{arith}
 use native.Mathlib.Decide.{ℕ-discrete, decLt}
 use lib.Bits.{xor-self, xor-lt}
-use Rattle.field.specs.Field.{plus, sum, times, inverseOf}
-use Rattle.field.proofs.XorLaws.{xors}
+use Rattle.field.specs.Field.{plus, sum, times}
 use Rattle.field.proofs.SumLaws.{sum-none, sum-last, sum-same, sum-zero, sum-swap, sum-one, sum-lt}
 use Rattle.field.proofs.TimesLaws.{times-lt, times-comm, times-assoc, zero-times, times-zero, one-times, times-sum, sum-times}
-use Rattle.field.proofs.InverseLaws.{times-inverse}
 use Rattle.vector.specs.Vectors.{product, mixed}
-use Rattle.vector.proofs.VectorLaws.{product-same, product-right, product-mixed, mixed-scale}
+use Rattle.vector.proofs.VectorLaws.{product-same, product-right, product-mixed}
+use Rattle.vector.proofs.VanishingLaws.{without-last, last-spanned}
 use Rattle.linear.specs.PrivateElimination.{Matrix, BytesTo, Determining, Independent, Orthogonal, Vanishing, Reduces, LastIsCombined}
 use Rattle.linear.specs.PrivateSteps.{Vec, unitAt}
 use Rattle.linear.proofs.RowOperationLaws.{times-one, sel-other, sel-self, unit-byte, Agree, Op}
 use Rattle.linear.proofs.EchelonLaws.{Reduction, Shape}
 
-xor-equal : {a b : ℕ} → plus a b ≡ 0 → a ≡ b
-xor-equal {a} {b} e = simp xors at (ap (λ (x : ℕ). plus x b) e)
-
-product-lt : (n : ℕ) (u x : Vec) → product n u x < 256
+pub product-lt : (n : ℕ) (u x : Vec) → product n u x < 256
 unfolding product
 product-lt n u x = sum-lt 8 n _ (λ i l. times-lt (u i) (x i))
 
@@ -117,6 +113,11 @@ module _ (k m : ℕ) (a e t : Matrix) (ab : (i j : ℕ) → a i j < 256) (R : Re
       ∙ sym (op-product k k (R .is) (λ q j. unitAt j q) d i l)
       ∙ R .is .fwd .ext (λ q. product k (λ j. unitAt j q) d) d (λ q b. unit-row k q (λ j. unitAt j q) d (λ j c. refl) b (h q b)) i l
 
+  -- only the zero vector is orthogonal to all rows of t
+  whole : Determining k k t
+  whole d h zeros =
+      op-inj k (R .is) d (λ l. 0) h (λ l b. omega arith) (λ i l. sym (combined d h i l) ∙ zeros i l ∙ sym (op-zero k (R .is) i l))
+
   -- row i of e is what row i of t makes of the rows a
   combination : (i c : ℕ) → i < k → c < m → mixed k (t i) a c ≡ e i c
   unfolding product mixed
@@ -206,6 +207,10 @@ module _ (k m : ℕ) (a e t : Matrix) (ab : (i j : ℕ) → a i j < 256) (R : Re
         let got = reached q (unitAt j) (λ i b. unit-byte j i) in
         sym (by-unit k j y l (hy j l)) ∙ sum-same k _ _ (λ i b. ap (times (y i)) (sym (got .1 i b))) ∙ vanishing-product k m a y (got .0) h
 
+    -- rows of t past the rank vanish
+    rest : (i c : ℕ) → r ≤ i → i < k → c < m → mixed k (t i) a c ≡ 0
+    rest i c h l b = combination i c l b ∙ s .rest i c h l b
+
     -- rank below k: row r of t
     not-zeros : r < k → ((j : ℕ) → j < k → t r j ≡ 0) → ⊥
     unfolding product
@@ -225,7 +230,7 @@ module _ (k m : ℕ) (a e t : Matrix) (ab : (i j : ℕ) → a i j < 256) (R : Re
           one = w .0;
           one-there = w .1;
           one-not = w .2;
-          zero-sums = λ c l. combination r c h l ∙ s .rest r c (omega arith) h l;
+          zero-sums = λ c l. rest r c (omega arith) h l;
         }
 
     pub reduces : Reduces k m a t r
@@ -239,6 +244,8 @@ module _ (k m : ℕ) (a e t : Matrix) (ab : (i j : ℕ) → a i j < 256) (R : Re
           vanishing = vanishing;
           solution = solution;
           solves = solves;
+          rest = rest;
+          whole = whole;
         }
       where
         by-columns : Determining k m a → Dec (r < m) → r ≡ m
@@ -251,34 +258,12 @@ module _ (k m : ℕ) (a e t : Matrix) (ab : (i j : ℕ) → a i j < 256) (R : Re
 
 -- ---- a row that is not kept
 
-mixed-last : (k : ℕ) (y : Vec) (a : Matrix) (i : ℕ) → mixed (suc k) y a i ≡ plus (mixed k y a i) (times (y k) (a k i))
-unfolding mixed
-mixed-last k y a i = sum-last k (λ j. times (y j) (a j i))
-
--- the last coefficient is not zero, and by its inverse the others give the last row
+-- the last coefficient is not zero, else the rows before the last vanish
 pub last-combined : LastIsCombined
-last-combined k m a ab g v = (c, λ i l. sym (comes i l))
+last-combined k m a ab g v = last-spanned k m a (v .y) (v .zero-sums) (ab k) (v .bytes k (omega arith)) (omega (arith, last-not))
   where
-    last : ℕ
-    last = v .y k
-
-    c : Vec
-    c j = times (inverseOf last) (v .y j)
-
-    -- the sum of the rows before the last is the last row times its coefficient
-    equal : (i : ℕ) → i < m → mixed k (v .y) a i ≡ times last (a k i)
-    equal i l = xor-equal (sym (mixed-last k (v .y) a i) ∙ v .zero-sums i l)
-
-    last-not : last ≢ 0
+    last-not : v .y k ≢ 0
     last-not z =
-        v .one-not (⊎-elim (λ (q : v .one ≡ k). ap (v .y) q ∙ z) (g (v .y) (λ i l. v .bytes i (omega arith)) vanish (v .one)) (eq-or-lt-of-le (le-of-suc-le-suc (v .one-there))))
-      where
-        vanish : (i : ℕ) → i < m → mixed k (v .y) a i ≡ 0
-        vanish i l = equal i l ∙ ap (λ (x : ℕ). times x (a k i)) z ∙ zero-times (a k i)
-
-    comes : (i : ℕ) → i < m → mixed k c a i ≡ a k i
-    comes i l =
-        sym (mixed-scale (inverseOf last) k (v .y) a i) ∙ ap (times (inverseOf last)) (equal i l)
-        ∙ sym (times-assoc (inverseOf last) last (a k i))
-        ∙ ap (λ (x : ℕ). times x (a k i)) (times-comm (inverseOf last) last ∙ times-inverse last (omega (arith, last-not)) (v .bytes k (omega arith)))
-        ∙ one-times (ab k i)
+        v .one-not
+        (⊎-elim (λ (q : v .one ≡ k). ap (v .y) q ∙ z)
+        (g (v .y) (λ i l. v .bytes i (omega arith)) (without-last k m a (v .y) (v .zero-sums) z) (v .one)) (eq-or-lt-of-le (le-of-suc-le-suc (v .one-there))))

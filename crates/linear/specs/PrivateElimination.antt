@@ -15,6 +15,10 @@ Matrix = ℕ → ℕ → ℕ
 abbrev pub cells : List (List ℕ) → Matrix
 cells a i j = at (getD a i []) j
 
+-- rows and columns exchanged
+abbrev pub turned : Matrix → Matrix
+turned a i j = a j i
+
 -- the first k elements are bytes
 abbrev pub BytesTo : (k : ℕ) (x : ℕ → ℕ) → Type 0
 BytesTo k x = (i : ℕ) → i < k → x i < 256
@@ -45,8 +49,8 @@ pub record Vanishing (k m : ℕ) (a : Matrix) : Type 0 where
   pub one-not : y one ≢ 0
   pub zero-sums : (c : ℕ) → c < m → mixed k y a c ≡ 0
 
--- the rank of k rows, as far as it decides something (whether it is m, whether it is k), and combinations t of them that solve for a
--- vector where it is m
+-- the rank of k rows, as far as it decides something (whether it is m, whether it is k), and k combinations t of them: those past the rank
+-- vanish, and where it is m they solve for a vector
 pub record Reduces (k m : ℕ) (a t : Matrix) (rank : ℕ) : Type 0 where
   -- so a rank that is not m, or not k, is below it
   pub at-most-columns : rank ≤ m
@@ -62,6 +66,10 @@ pub record Reduces (k m : ℕ) (a t : Matrix) (rank : ℕ) : Type 0 where
       → (i : ℕ) → i < m → x i ≡ product k (t i) d
   -- rank m of m rows: and that combination does solve them
   pub solves : rank ≡ m → k ≡ m → (d : ℕ → ℕ) → BytesTo k d → (j : ℕ) → j < k → product m (a j) (λ i. product k (t i) d) ≡ d j
+  -- a combination past the rank vanishes
+  pub rest : (i c : ℕ) → rank ≤ i → i < k → c < m → mixed k (t i) a c ≡ 0
+  -- the combinations lose nothing: only the zero vector of k elements is orthogonal to all of them
+  pub whole : Determining k k t
 
 -- a row that is not kept: where k rows are independent and a combination of k + 1 vanishes, the last is a combination of those before it
 abbrev pub LastIsCombined : Type 0

@@ -122,6 +122,29 @@ pub fn reduce(a: [[u8; 16]; 16], k: usize, m: usize, rank: &mut usize) -> [[u8; 
     eliminated(&tables, a, k, m, rank)
 }
 
+// Column j.
+fn column(a: [[u8; 16]; 16], j: usize) -> [u8; 16]
+    requires { ⌜ j < 16 ⌝ }
+    ensures { λ r. ⌜ ((i : ℕ) → i < 16 → at r i ≡ cells a i j) ⌝ }
+{
+    let mut out = [0u8; 16];
+    for i in 0..16 {
+        out[i] = a[i][j];
+    }
+    out
+}
+
+// Rows and columns exchanged.
+pub fn turned(a: [[u8; 16]; 16]) -> [[u8; 16]; 16]
+    ensures { λ r. ⌜ ((i j : ℕ) → i < 16 → j < 16 → cells r i j ≡ cells a j i) ⌝ }
+{
+    let mut out = [[0u8; 16]; 16];
+    for i in 0..16 {
+        out[i] = column(a, i);
+    }
+    out
+}
+
 // Carries the law of a row that is not kept: without its proof the crate is not proved.
 pub fn last_is_combined()
     ensures { λ _. ⌜ LastIsCombined ⌝ }

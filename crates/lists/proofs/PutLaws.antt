@@ -1,6 +1,6 @@
 -- Laws of stores in a row (`put`), rows of stores (`grid`) and rows of values (`flat`). Assumes nothing.
 use Prim.Native.Nat.{ℕ, zero, suc, _+_, _-_, _*_, _/_, _%_, _<_, _≤_}
-use mathlib.Core.Path.{_≡_, refl, sym, ap, _∙_}
+use mathlib.Core.Path.{_≡_, refl, sym, ap, subst, _∙_}
 use mathlib.Core.List.{List, _++_}
 use mathlib.Core.Logic.{⊎-elim}
 use native.Mathlib.Omega.{arith}
@@ -168,6 +168,12 @@ flat-at (suc n) m f k p h hp =
     List·getD-append (flat n m f) (tab m (f n)) 0 (k * m + p) (rw length-flat (omega (arith, mul-le-mul-right m l)))
     ∙ flat-at n m f k p l hp)
     (eq-or-lt-of-le {n = k} {m = n} (omega arith))
+
+-- every element has what each value has
+pub flat-every : (P : ℕ → Type 0) (n m : ℕ) (f : ℕ → ℕ → ℕ) → 0 < m → ((k p : ℕ) → P (f k p)) → (i : ℕ) → i < n * m → P (at (flat n m f) i)
+flat-every P n m f pos h i l =
+    subst (λ (x : ℕ). P (at (flat n m f) x)) (div-add-mod' i m)
+    (subst P (sym (flat-at n m f (i / m) (i % m) (div-lt-iff-lt-mul {k = m} pos .1 l) (mod-lt i pos))) (h (i / m) (i % m)))
 
 pub flat-same : (n m : ℕ) (f g : ℕ → ℕ → ℕ) → ((k p : ℕ) → k < n → p < m → f k p ≡ g k p) → flat n m f ≡ flat n m g
 unfolding flat

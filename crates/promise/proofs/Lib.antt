@@ -7,6 +7,9 @@ pub mod DemandLaws
 pub mod Unmask
 pub mod ReadFixed
 pub mod InventoryFixed
+pub mod PlanFixed
+pub mod PlanRepaired
+pub mod PlanRows
 pub mod Life
 pub mod Worked
 pub mod SmallCases

@@ -8,7 +8,7 @@ use native.Mathlib.Omega.{arith}
 use lib.Dec.{eqb}
 use Rattle.lists.specs.Lists.{at, tab, anyOf, anyBelow, bit, Bytes, howMany}
 use Rattle.answer.specs.declared.Refusal.{Refusal}
-use Rattle.answer.specs.declared.Refusal.the-variants.{Size, Length, BadArchive, NoSuchPlace, PlaceEmpty, PlaceFilled, ZeroKeyVector, Unreadable, Malformed, ProvesNothing}
+use Rattle.answer.specs.declared.Refusal.the-variants.{Size, Length, BadArchive, NoSuchPlace, PlaceEmpty, PlaceFilled, ZeroKeyVector, Unreadable, Malformed, ProvesNothing, NoPlan}
 use Rattle.answer.specs.declared.Outcome.the-variants.{Done}
 use Rattle.answer.specs.Numbers.{refusalNumber}
 use Rattle.answer.specs.Refusals.{refuse, outside}
@@ -38,6 +38,7 @@ not-ten ZeroKeyVector e = omega arith
 not-ten Unreadable e = omega arith
 not-ten Malformed e = omega arith
 not-ten ProvesNothing e = omega arith
+not-ten NoPlan e = omega arith
 
 both-back : (c : Challenge) (lent : List ℕ) → challengeAnswer c lent ≡ Done → Bytes (c .coefficients)
     → (challengeOf (challengeOut c lent) ≡ c) × (malformedChallenge (challengeOut c lent) ≡ false)

@@ -2,6 +2,7 @@ pub mod Table
 pub mod Image
 pub mod Demand3
 pub mod Companions
+pub mod Plans
 pub mod Life
 pub mod Worked
 pub mod SmallCases

@@ -5,6 +5,7 @@ ghost use Rattle.promise.specs.Worked.{Worked};
 ghost use Rattle.promise.specs.SmallCases.{SmallCases};
 ghost use Rattle.promise.specs.Hollow.{Hollow};
 ghost use Rattle.promise.specs.Companions.{Unmasking, ReadIsFixed, InventoryIsFixed};
+ghost use Rattle.promise.specs.Plans.{PlanIsFixed, PlannedRepair, NoThetas, PlanReadsRows};
 
 // Demand 3: a single claim about every list of Encode, Lose and Repair calls.
 pub fn demand3()
@@ -24,6 +25,26 @@ pub fn read_is_fixed()
 // Inventory's number is fixed, and its list up to the order.
 pub fn inventory_is_fixed()
     ensures { λ _. ⌜ InventoryIsFixed ⌝ }
+{}
+
+// A plan is fixed for every archive.
+pub fn plan_is_fixed()
+    ensures { λ _. ⌜ PlanIsFixed ⌝ }
+{}
+
+// Repair gives what was planned.
+pub fn planned_repair()
+    ensures { λ _. ⌜ PlannedRepair ⌝ }
+{}
+
+// Where no plan is found there is none.
+pub fn no_thetas()
+    ensures { λ _. ⌜ NoThetas ⌝ }
+{}
+
+// A plan for one archive is a plan for any other with the same rows.
+pub fn plan_reads_rows()
+    ensures { λ _. ⌜ PlanReadsRows ⌝ }
 {}
 
 // The premises of demand 3 can be met, in layout 1 and with three tags: a concrete life, its bytes computed.

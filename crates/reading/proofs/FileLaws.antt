@@ -1,14 +1,13 @@
 -- The file written from the chosen places solves for the blocks, and what Read answers. Assumes nothing.
-use Prim.Native.Nat.{ℕ, _-_, _*_, _/_, _%_, _<_}
+use Prim.Native.Nat.{ℕ, _-_, _<_}
 use mathlib.Core.Path.{_≡_, refl, sym, ap, subst, _∙_}
 use mathlib.Core.Logic.{inr}
 use mathlib.Core.Bool.{Bool, false}
 use mathlib.Core.List.{List}
-use native.Mathlib.Nat.{div-add-mod', mod-lt, div-lt-iff-lt-mul}
 use native.Mathlib.Omega.{arith}
 use lib.ListN.{length}
 use Rattle.lists.specs.Lists.{at, flat, grid, howMany}
-use Rattle.lists.proofs.PutLaws.{length-flat, flat-at, grid-all}
+use Rattle.lists.proofs.PutLaws.{length-flat, flat-at, flat-every, grid-all}
 use Rattle.answer.specs.declared.Outcome.the-variants.{Done}
 use Rattle.answer.specs.declared.Refusal.the-variants.{Unreadable}
 use Rattle.answer.proofs.RefusalLaws.{passed, differs-same}
@@ -27,12 +26,6 @@ use Rattle.choice.specs.PrivateChoice.{listedRows}
 use Rattle.choice.proofs.WholeLaws.{taken-listed, listed-low, count-full, takes-all}
 use Rattle.reading.proofs.PlaceRowLaws.{row-byte}
 use Rattle.reading.proofs.ReadingLaws.{ChosenIn, unreadable, readable, enough}
-
--- every element of blocks in a row has what each element of a block has
-flat-every : (P : ℕ → Type 0) (n m : ℕ) (f : ℕ → ℕ → ℕ) → 0 < m → ((k p : ℕ) → P (f k p)) → (i : ℕ) → i < n * m → P (at (flat n m f) i)
-flat-every P n m f pos h i l =
-    subst (λ (x : ℕ). P (at (flat n m f) x)) (div-add-mod' i m)
-    (subst P (sym (flat-at n m f (i / m) (i % m) (div-lt-iff-lt-mul {k = m} pos .1 l) (mod-lt i pos))) (h (i / m) (i % m)))
 
 module _ (z : Sizes) (s : List ℕ) (c : Chosen) (chosen : ChosenIn z s c) (t : Matrix) (rank : ℕ)
     (reduced : Reduces (c .count) (z .m) (listedRows (rowIn z s) c) t rank) where

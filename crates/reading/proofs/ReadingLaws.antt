@@ -14,7 +14,7 @@ use Rattle.linear.proofs.AlikeLaws.{reduces-same}
 use Rattle.choice.specs.declared.Rows.{Rows}
 use Rattle.choice.specs.declared.Chosen.{Chosen}
 use Rattle.choice.specs.PrivateChoice.{rowAt, offered, listedRows, WholeChoice}
-use Rattle.choice.proofs.WholeLaws.{whole-alike, taken, taken-low, candidates-zero, count-full, determined}
+use Rattle.choice.proofs.WholeLaws.{whole-alike, taken, taken-low, candidates-zero, count-ranked, count-full, determined}
 use Rattle.archive.specs.Layout.{markAt}
 use Rattle.archive.specs.Read.{rowIn, Blind, among, Enough}
 use Rattle.reading.specs.PrivateRows.{rowsIn}
@@ -62,7 +62,7 @@ module _ (z : Sizes) (s : List ℕ) (c : Chosen) (chosen : ChosenIn z s c) (t : 
         one = o .one;
         one-there = o .one-there;
         one-not = o .one-not;
-        orthogonal = candidates-zero _ _ _ _ c chosen t rank reduced h;
+        orthogonal = candidates-zero _ _ _ _ c chosen (omega (arith, h, count-ranked _ _ _ _ c chosen t rank reduced)) (o .x) (o .zero-products);
       }
 
   module _ (full : rank ≡ z .m) where

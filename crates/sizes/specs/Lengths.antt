@@ -60,6 +60,13 @@ nodesMost = 6
 abbrev pub tagsMost : ℕ
 tagsMost = 10
 
+-- of a repair: helpers, and repair blocks that each of them sends (the scheme: P, Q)
+abbrev pub helpersMost : ℕ
+helpersMost = 5
+
+abbrev pub sentMost : ℕ
+sentMost = 8
+
 abbrev pub recordMost : ℕ
 recordMost = nMost + mMost + tagsMost
 

@@ -47,6 +47,11 @@ pub const NODES_MOST: usize = 6;
 
 pub const TAGS_MOST: usize = 10;
 
+// Of a repair: helpers, and repair blocks that each of them sends (the scheme: P, Q), both from 1.
+pub const HELPERS_MOST: usize = 5;
+
+pub const SENT_MOST: usize = 8;
+
 // The longest record, and the longest key vector in whole keystream blocks.
 pub const RECORD_MOST: usize = N_MOST + M_MOST + TAGS_MOST;
 

@@ -2,7 +2,8 @@
 ghost use mathlib.Core.Path.{_≡_};
 ghost use Prim.Native.Nat.{_<_};
 ghost use lib.ListN.{length};
-ghost use Rattle.answer.specs.Numbers.{outcomeNumber};
+ghost use Rattle.answer.specs.declared.Outcome.{Outcome};
+ghost use Rattle.answer.specs.Numbers.{outcomeNumber, NumberedAnswer};
 ghost use Rattle.field.specs.Field.{times, inverseOf};
 ghost use Rattle.keystream.specs.Block.{blockAnswer, blockOut};
 ghost use Rattle.tag.specs.Vector.{vectorAnswer, vectorOut};
@@ -18,6 +19,7 @@ ghost use Rattle.answer.specs.declared.Counted.{Counted};
 ghost use Rattle.answer.specs.Counted.{countedNumber, countedValue, CountedAnswer};
 ghost use Rattle.archive.specs.Inventory.{InventoryAllows};
 ghost use Rattle.archive.specs.Read.{ReadAllows};
+ghost use Rattle.archive.specs.Plan.{PlanAllows};
 ghost use Rattle.sizes.specs.declared.Sizes.{Sizes};
 use answer::Counted;
 
@@ -118,6 +120,26 @@ pub extern "C" fn span_unmask(
         ⌜ now (out .exit) ≡ unmaskOut n tags id maskKey response (now (out .entry)) ⌝ }
 {
     answer::number(message::unmask(n, tags, id, mask_key, response, out))
+}
+
+#[no_mangle]
+pub extern "C" fn span_plan(
+    archive: &[u8],
+    helpers: &[u8],
+    q: usize,
+    gammas: &[u8],
+    rows: &[u8],
+    thetas: &mut [u8],
+) -> u8
+    ensures { λ r.
+        let archive = now (archive .entry) in
+        let helpers = now (helpers .entry) in
+        let gammas = now (gammas .entry) in
+        let rows = now (rows .entry) in
+        let allows : Outcome → Type 0 = λ answer. PlanAllows archive helpers q gammas rows (now (thetas .entry)) answer (now (thetas .exit)) in
+        ⌜ NumberedAnswer allows r ⌝ }
+{
+    answer::number(planning::plan(archive, helpers, q, gammas, rows, thetas))
 }
 
 #[no_mangle]

@@ -1,4 +1,5 @@
 pub mod VectorLaws
 pub mod AddedLaws
 pub mod SpanLaws
+pub mod VanishingLaws
 pub mod TakenLaws

@@ -1,4 +1,4 @@
--- What is a combination of k rows: zero, each row, sums and multiples of such, and combinations of such. Assumes nothing.
+-- What is a combination of k rows: zero, each row, sums and multiples of such, combinations of such; what is orthogonal to it. Assumes nothing.
 use Prim.Native.Nat.{ℕ, zero, suc, _<_}
 use mathlib.Core.Path.{_≡_, refl, sym, ap, ap₂, _∙_}
 use mathlib.Core.Bool.{Bool}
@@ -7,11 +7,11 @@ use lib.Dec.{eqb}
 use borrow.Author.Tests.{eq-eqb, ne-eqb}
 use Rattle.lists.specs.Lists.{pick}
 use Rattle.field.specs.Field.{plus, times}
-use Rattle.field.proofs.SumLaws.{sum-none, sum-last, sum-same, sum-one, sum-plus}
-use Rattle.field.proofs.TimesLaws.{times-xor-left, zero-times, one-times}
-use Rattle.vector.specs.Vectors.{mixed}
+use Rattle.field.proofs.SumLaws.{sum-none, sum-last, sum-same, sum-zero, sum-one, sum-plus}
+use Rattle.field.proofs.TimesLaws.{times-xor-left, zero-times, times-zero, one-times}
+use Rattle.vector.specs.Vectors.{product, mixed}
 use Rattle.vector.specs.Taken.{Spanned}
-use Rattle.vector.proofs.VectorLaws.{mixed-scale, mixed-vectors, mixed-zero}
+use Rattle.vector.proofs.VectorLaws.{mixed-scale, mixed-vectors, mixed-zero, product-same, product-mixed}
 
 -- rows that agree
 pub spanned-rows : (k m : ℕ) (row row′ : ℕ → ℕ → ℕ) {v : ℕ → ℕ} → ((j i : ℕ) → j < k → i < m → row j i ≡ row′ j i) → Spanned k m row v → Spanned k m row′ v
@@ -54,3 +54,8 @@ module _ (k m : ℕ) (row : ℕ → ℕ → ℕ) where
 
   pub spanned-through : (n : ℕ) (a : ℕ → ℕ → ℕ) {v : ℕ → ℕ} → ((j : ℕ) → j < n → Spanned k m row (a j)) → Spanned n m a v → Spanned k m row v
   spanned-through n a h s = spanned-same (s .1) (spanned-mixed n (s .0) a h)
+
+  -- a vector that is orthogonal to the rows is orthogonal to their combinations
+  pub spanned-orthogonal : (x : ℕ → ℕ) → ((j : ℕ) → j < k → product m (row j) x ≡ 0) → {v : ℕ → ℕ} → Spanned k m row v → product m v x ≡ 0
+  spanned-orthogonal x zeros s =
+      product-same m _ _ x (s .1) ∙ product-mixed m k (s .0) row x ∙ sum-zero k _ (λ j l. ap (times (s .0 j)) (zeros j l) ∙ times-zero (s .0 j))

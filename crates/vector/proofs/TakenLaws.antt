@@ -1,4 +1,5 @@
--- Which rows are taken is fixed, and a vector orthogonal to them is orthogonal to every candidate. Assumes nothing.
+-- Which rows are taken is fixed; what is orthogonal to them is orthogonal to every candidate, and they span what all candidates span. Assumes
+-- nothing.
 use Prim.Native.Nat.{ℕ, zero, suc, _<_, _≤_}
 use mathlib.Core.Path.{_≡_, refl, sym, ap, _∙_}
 use mathlib.Core.Logic.{⊎-elim}
@@ -6,13 +7,17 @@ use mathlib.Core.Bool.{Bool, true, false}
 use native.Mathlib.Nat.{eq-or-lt-of-le, le-of-suc-le-suc}
 use native.Mathlib.Omega.{arith}
 use Rattle.lists.specs.Lists.{pick}
-use Rattle.field.specs.Field.{times}
-use Rattle.field.proofs.SumLaws.{sum-zero}
-use Rattle.field.proofs.TimesLaws.{times-zero}
 use Rattle.vector.specs.Vectors.{product}
-use Rattle.vector.specs.Taken.{only, Combined, Takes}
-use Rattle.vector.proofs.VectorLaws.{product-same, product-zero, product-mixed}
-use Rattle.vector.proofs.SpanLaws.{spanned-rows, spanned-same}
+use Rattle.vector.specs.Taken.{Spanned, only, Combined, Takes}
+use Rattle.vector.proofs.VectorLaws.{product-zero}
+use Rattle.vector.proofs.SpanLaws.{spanned-rows, spanned-same, spanned-row, spanned-through, spanned-orthogonal}
+
+pub only-byte : (row : ℕ → ℕ → ℕ) → ((j i : ℕ) → row j i < 256) → (taken : ℕ → Bool) (j i : ℕ) → only taken row j i < 256
+only-byte row low taken j i = go (taken j)
+  where
+    go : (t : Bool) → pick t (row j i) 0 < 256
+    go true = low j i
+    go false = omega arith
 
 -- ---- the same where rows, candidates or rows taken agree
 
@@ -88,7 +93,19 @@ module _ (m : ℕ) (row : ℕ → ℕ → ℕ) (candidate : ℕ → Bool) (count
     where
       go : (x : Bool) → taken k ≡ x → product m (row k) v ≡ 0
       go true q = zeros k h q
-      go false q =
-          let c : Combined m row taken k = takes .every k h f q in
-          product-same m _ _ v (c .1) ∙ product-mixed m k (c .0) _ v
-          ∙ sum-zero k _ (λ j l. ap (times (c .0 j)) (part-zero j (omega arith)) ∙ times-zero (c .0 j))
+      go false q = spanned-orthogonal k m (only taken row) v (λ j l. part-zero j (omega arith)) (takes .every k h f q)
+
+-- ---- a combination of all rows before one
+
+-- is one of those taken, where every row was a candidate
+pub spanned-taken : (m : ℕ) (row : ℕ → ℕ → ℕ) (candidate : ℕ → Bool) (count : ℕ) (taken : ℕ → Bool) → Takes m row candidate count taken
+    → ((j : ℕ) → j < count → candidate j ≡ true) → ((j i : ℕ) → row j i < 256) → (k : ℕ) → k ≤ count → {v : ℕ → ℕ} → Spanned k m row v → Spanned k m (only taken row) v
+spanned-taken m row candidate count taken takes all low k h = spanned-through k m (only taken row) k row (λ j l. each j l (taken j) refl)
+  where
+    itself : (j : ℕ) → j < k → Spanned k m (only taken row) (only taken row j)
+    itself j l = spanned-row k m (only taken row) j l (λ i b. only-byte row low taken j i)
+
+    each : (j : ℕ) → j < k → (t : Bool) → taken j ≡ t → Spanned k m (only taken row) (row j)
+    each j l true e = spanned-same k m (only taken row) (λ i b. sym (ap (λ (t : Bool). pick t (row j i) 0) e)) (itself j l)
+    each j l false e =
+        spanned-through k m (only taken row) j (only taken row) (λ p b. itself p (omega arith)) (takes .every j (omega arith) (all j (omega arith)) e)
