@@ -1,4 +1,5 @@
--- Which rows of a sequence are taken, in order: each candidate that is no combination of those taken before it (SCHEME, Operations, Read).
+-- Combinations of rows, and which rows of a sequence are taken, in order: each candidate that is no combination of those taken before it
+-- (SCHEME, Operations, Read and Plan).
 -- A row is a vector of m elements; rows are counted from 0.
 use Prim.Native.Nat.{ℕ, _<_}
 use mathlib.Core.Path.{_≡_}

@@ -68,7 +68,7 @@ reaches-requires c κs =
       c .before .before .before .before .before .before .before .before .before .before .before .before .tables .ensures,
       ok .sizes .m-high,
       ok .sizes .places-high,
-      c .before .before .before .before .before .before .before .choose .ensures .choice .fits,
+      omega (arith, c .before .before .before .before .before .before .before .choose .ensures .choice .fits),
       ok .rows-length,
     )
 

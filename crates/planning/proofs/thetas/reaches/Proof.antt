@@ -29,7 +29,7 @@ mul-row-from c =
 row-from-requires : tie.Need-row-from-requires Inv-loop μ-loop
 row-from-requires c κs =
     let b = c .before .before .before .before in
-    (b .pre .1, wanted-fits (b .args .z) (c .before .before .loop .k) (omega (arith, c .before .before .loop .inv .1)) (b .pre .4))
+    (b .pre .1, omega (arith, wanted-fits (b .args .z) (c .before .before .loop .k) (omega (arith, c .before .before .loop .inv .1)) (b .pre .4)))
 
 first-seen-requires : tie.Need-first-seen-requires Inv-loop μ-loop
 first-seen-requires c κs = let b = c .before .before .before .before .before in (b .pre .0, b .pre .1, b .pre .3)
