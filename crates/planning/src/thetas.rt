@@ -82,7 +82,7 @@ fn vector_of(
     out
 }
 
-// The thetas of a repair block, from `from` on: the products of the wanted rows and its vector.
+// The thetas of a repair block, from `from` on: the products of the wanted rows and its vector, which is zero for a block that was not taken.
 fn write_block(tables: &Tables, z: Sizes, v: [u8; 16], rows: &[u8], thetas: &mut [u8], from: usize)
     requires { ⌜ FieldTables (now tables)
         × (z .m ≤ 16)
@@ -93,6 +93,10 @@ fn write_block(tables: &Tables, z: Sizes, v: [u8; 16], rows: &[u8], thetas: &mut
         let rows = now (rows .entry) in
         ⌜ now (thetas .exit) ≡ put (z .places) from (λ k. product (z .m) (wantedRow z rows k) (at v)) (now (thetas .entry)) ⌝ }
 {
+    if linear::all_zero(Row { bytes: v }, z.m) {
+        lists::zero(thetas, from, z.places);
+        return;
+    }
     for k in 0..z.places {
         let row = linear::row_from(rows, k * z.m, z.m);
         thetas[from + k] = seen(tables, row, v, z.m);
