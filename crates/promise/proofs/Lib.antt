@@ -12,5 +12,6 @@ pub mod PlanRepaired
 pub mod PlanRows
 pub mod Life
 pub mod Worked
+pub mod PlanCases
 pub mod SmallCases
 pub mod Hollow

@@ -26,6 +26,7 @@ use Rattle.promise.specs.Worked as W
 use Rattle.promise.specs.SmallCases.{headed, SmallCases}
 use Rattle.promise.proofs.ImageLaws.{image-good, opened-is}
 use Rattle.promise.proofs.Worked.{two-sizes}
+use Rattle.promise.proofs.PlanCases.{planned-two, unplanned-one}
 
 not-ten : (r : Refusal) → refusalNumber r ≢ 10
 not-ten Size e = omega arith
@@ -118,4 +119,6 @@ smallCases =
       marks-a0 = refl;
       listed = two-listed;
       twice = not-twice;
+      planned = planned-two;
+      out-of-reach = unplanned-one;
     }

@@ -6,7 +6,8 @@ use mathlib.Core.List.{List, [], _∷_}
 use mathlib.Core.Logic.{_≢_}
 use lib.ListN.{length}
 use Rattle.answer.specs.declared.Refusal.{Refusal}
-use Rattle.answer.specs.declared.Outcome.the-variants.{Done}
+use Rattle.answer.specs.declared.Outcome.the-variants.{Done, Refused}
+use Rattle.answer.specs.declared.Refusal.the-variants.{NoPlan}
 use Rattle.answer.specs.Numbers.{refusalNumber, outcomeNumber}
 use Rattle.bits.specs.Fields.{pack, packed}
 use Rattle.sizes.specs.declared.Sizes.{Sizes}
@@ -17,6 +18,7 @@ use Rattle.archive.specs.Layout.{layoutOutside, sizeFields, badArchive}
 use Rattle.archive.specs.Open.{opened, openAnswer}
 use Rattle.lists.specs.Lists.{at, tab, bit, Bytes}
 use Rattle.archive.specs.Inventory.{InventoryAllows}
+use Rattle.archive.specs.Plan.{PlanAllows}
 use Rattle.answer.specs.declared.Counted.the-variants.{Count}
 use Rattle.promise.specs.Table.{Table, allEmpty}
 use Rattle.promise.specs.Image.{Setting, image}
@@ -68,3 +70,6 @@ pub record SmallCases : Type 0 where
   -- Inventory of that archive may list place 0 of box 2 first, 8·2+0, then that of box 0; not a place twice
   pub listed : InventoryAllows W.two (0 ∷ 0 ∷ 0 ∷ []) (Count 2) (16 ∷ 0 ∷ 0 ∷ [])
   pub twice : ¬ InventoryAllows W.two (0 ∷ 0 ∷ 0 ∷ []) (Count 2) (16 ∷ 16 ∷ 0 ∷ [])
+  -- its rows are 01 00 and 02 03: boxes 0 and 2 give the row 00 03 by the thetas 02 01, and box 0 alone does not reach it
+  pub planned : PlanAllows W.two (0 ∷ 2 ∷ []) 1 (1 ∷ 1 ∷ []) (0 ∷ 3 ∷ []) (0 ∷ 0 ∷ []) Done (2 ∷ 1 ∷ [])
+  pub out-of-reach : PlanAllows W.two (0 ∷ []) 1 (1 ∷ []) (0 ∷ 3 ∷ []) (0 ∷ []) (Refused NoPlan) (0 ∷ [])
