@@ -1,5 +1,5 @@
--- The operation Plan (SCHEME, Operations), a relation between what is lent, the answer and the thetas afterwards; nothing is free. Refuses 3,
--- 1, 2, 4, 5, 12.
+-- The operation Plan (SCHEME, Operations), a relation between what is lent, the answer and the thetas afterwards; nothing is free.
+-- Refuses 3, 1, 2, 4, 5, 12.
 use Prim.Native.Nat.{ℕ, _+_, _*_, _/_, _%_, _<_}
 use mathlib.Core.Path.{_≡_}
 use mathlib.Core.Logic.{_⊎_, _≢_}

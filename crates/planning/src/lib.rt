@@ -50,8 +50,8 @@ fn plan_check(
     Outcome::Done
 }
 
-// The thetas, where the repair rows reach every wanted row. Elimination on the columns of the repair rows taken gives a combination for each of
-// them that sees it alone, and then combinations that see none of them.
+// The thetas, where the repair rows reach every wanted row. Elimination on the columns of the repair rows taken gives a combination for
+// each of them that sees it alone, and then combinations that see none of them.
 fn plan_thetas(
     archive: &[u8],
     helpers: &[u8],

@@ -1,4 +1,5 @@
-// Thetas, from what elimination on the columns of the repair rows taken gives: combinations. One sees a row where their product is not zero.
+// Thetas, from the combinations that elimination on the columns of the repair rows taken gives. One sees a row where their product is not
+// zero.
 ghost use mathlib.Core.Path.{_≡_};
 ghost use Prim.Native.Nat.{ℕ, _+_, _*_, _<_, _≤_};
 ghost use lib.ListN.{length};
@@ -82,7 +83,8 @@ fn vector_of(
     out
 }
 
-// The thetas of a repair block, from `from` on: the products of the wanted rows and its vector, which is zero for a block that was not taken.
+// The thetas of a repair block, from `from` on: the products of the wanted rows and its vector, which is zero where the block was not
+// taken.
 fn write_block(tables: &Tables, z: Sizes, v: [u8; 16], rows: &[u8], thetas: &mut [u8], from: usize)
     requires { ⌜ FieldTables (now tables)
         × (z .m ≤ 16)

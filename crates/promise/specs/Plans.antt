@@ -42,8 +42,8 @@ NoThetas =
     (s helpers : List ℕ) (q : ℕ) (gammas rows lent written : List ℕ) → PlanAllows s helpers q gammas rows lent (Refused NoPlan) written
     → (thetas : List ℕ) (target scratch : ℕ) → ¬ Gives s rows target (repair target helpers q gammas thetas scratch)
 
--- two archives that are not bad and have the same m, places and nodes, the same marks, and the same stored rows in filled places; layout, n,
--- number of tags, id and all other bytes may differ
+-- two archives that are not bad and have the same m, places and nodes, the same marks, and the same stored rows in filled places; layout,
+-- n, number of tags, id and all other bytes may differ
 pub record SameRows (s s′ : List ℕ) : Type 0 where
   pub good : badArchive s ≡ false
   pub good′ : badArchive s′ ≡ false

@@ -136,7 +136,8 @@ pub extern "C" fn span_plan(
         let helpers = now (helpers .entry) in
         let gammas = now (gammas .entry) in
         let rows = now (rows .entry) in
-        let allows : Outcome → Type 0 = λ answer. PlanAllows archive helpers q gammas rows (now (thetas .entry)) answer (now (thetas .exit)) in
+        let lent = now (thetas .entry) in
+        let allows : Outcome → Type 0 = λ answer. PlanAllows archive helpers q gammas rows lent answer (now (thetas .exit)) in
         ⌜ NumberedAnswer allows r ⌝ }
 {
     answer::number(planning::plan(archive, helpers, q, gammas, rows, thetas))
