@@ -1,7 +1,9 @@
 -- Laws of counting. Assumes nothing.
 use Prim.Native.Nat.{ℕ, zero, suc, _+_, _-_, _<_, _≤_}
-use mathlib.Core.Path.{_≡_, refl, ap, _∙_}
+use mathlib.Core.Path.{_≡_, refl, sym, ap, _∙_}
 use mathlib.Core.Bool.{Bool, true, false}
+use mathlib.Core.Logic.{_≢_}
+use native.Mathlib.Decide.{ℕ-discrete}
 use native.Mathlib.Nat.{add-zero, add-suc}
 use native.Mathlib.Numerals.{add-one}
 use native.Mathlib.Omega.{arith}
@@ -28,6 +30,16 @@ pub howMany-none : (n : ℕ) (f : ℕ → Bool) → ((i : ℕ) → i < n → f i
 unfolding howMany
 howMany-none zero f h = refl
 howMany-none (suc n) f h = rw (howMany-none n f (λ i l. h i (omega arith)), h n (omega arith))
+
+-- at most one index passes
+pub howMany-one : (n k : ℕ) (f : ℕ → Bool) → k < n → ((i : ℕ) → i < n → i ≢ k → f i ≡ false) → howMany n f ≡ bit (f k)
+unfolding howMany
+howMany-one zero k f h others = absurd (omega arith)
+howMany-one (suc n) k f h others =
+    elim (ℕ-discrete k n) [
+      | yes e ↦ rw (howMany-none n f (λ i l. others i (omega arith) (λ q. omega arith)), e) (omega arith)
+      | no e ↦ rw (howMany-one n k f (omega arith) (λ i l. others i (omega arith)), others n (omega arith) (λ q. e (sym q))) (omega arith)
+    ]
 
 pub howMany-split : (a b : ℕ) (f : ℕ → Bool) → howMany (a + b) f ≡ howMany a f + howMany b (λ i. f (a + i))
 unfolding howMany

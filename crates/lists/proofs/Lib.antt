@@ -1,5 +1,7 @@
 pub mod TabLaws
+pub mod PadLaws
 pub mod CountLaws
+pub mod FilterLaws
 pub mod PutLaws
 pub mod PartLaws
 pub mod OverLaws

@@ -23,6 +23,10 @@ tab (suc n) f = tab n f ++ (f n ∷ [])
 unfoldable pub over : {A : Type 0} (from n : ℕ) (f g : ℕ → A) (i : ℕ) → A
 over from n f g i = pick (ltb i from) (g i) (pick (ltb i (from + n)) (f (i - from)) (g i))
 
+-- xs, then zeros up to n elements
+unfoldable pub zeroPadded : (n : ℕ) (xs : List ℕ) → List ℕ
+zeroPadded n xs = xs ++ tab (n - length xs) (λ i. 0)
+
 -- n rows of m values each, row after row
 unfoldable pub flat : (n m : ℕ) (f : ℕ → ℕ → ℕ) → List ℕ
 flat zero m f = []
@@ -50,7 +54,7 @@ unfoldable pub anyBelow : (n : ℕ) (p : ℕ → Bool) → Bool
 anyBelow zero p = false
 anyBelow (suc n) p = pick (p n) true (anyBelow n p)
 
--- ---- counting
+-- ---- counting and choosing
 
 abbrev pub bit : Bool → ℕ
 bit true = 1
@@ -60,6 +64,11 @@ bit false = 0
 unfoldable pub howMany : (n : ℕ) (p : ℕ → Bool) → ℕ
 howMany zero p = 0
 howMany (suc n) p = howMany n p + bit (p n)
+
+-- f of each index below n that passes, the indices rising
+unfoldable pub filtered : (n : ℕ) (p : ℕ → Bool) (f : ℕ → ℕ) → List ℕ
+filtered zero p f = []
+filtered (suc n) p f = filtered n p f ++ pick (p n) (f n ∷ []) []
 
 -- every element is a byte
 abbrev pub Bytes : (xs : List ℕ) → Type 0
