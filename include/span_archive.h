@@ -124,8 +124,8 @@ uint8_t span_verdict(const uint8_t *tag_key, size_t tag_key_len, const uint8_t *
 uint8_t span_unmask(size_t n, size_t tags, const uint8_t *id, size_t id_len, const uint8_t *mask_key, size_t mask_key_len,
                     const uint8_t *response, size_t response_len, uint8_t *out, size_t out_len);
 
-/* For every filled place, just once and in any order, 8 times its node plus the place; zeros up to nodes*places bytes. Their number into
-   *count. Refuses 3, 2. */
+/* For every filled place 8 times its node plus the place, node by node and within a node place by place, both rising; zeros up to
+   nodes*places bytes. Their number into *count. Refuses 3, 2. */
 uint8_t span_inventory(const uint8_t *archive, size_t archive_len, uint8_t *list, size_t list_len, uint8_t *count);
 
 /* The file of m(n-2) bytes, solved from the first filled places, by node, then place, whose rows determine it; how many filled places were

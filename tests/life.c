@@ -267,9 +267,9 @@ static void audit(const struct life *of, const uint8_t *archive) {
     give_back("unmask's block", block, 1);
 }
 
-/* Inventory and Read; and Read of what is left when node 2 is lost too: nothing is written. */
+/* Inventory and Read; and both of what is left when node 2 is lost too: Read writes nothing. */
 static void list_and_read(uint8_t *archive, size_t len) {
-    static const uint8_t listed[6] = {8, 9, 16, 17, 0, 0};
+    static const uint8_t listed[6] = {8, 9, 16, 17, 0, 0}, left[6] = {8, 9};
     uint8_t *list = lend(NULL, 6), *data = lend(NULL, 2), count = 99, consulted = 99;
     answer("inventory", 0, span_inventory(archive, len, list, 6, &count));
     expect("the list", count == 4 && !memcmp(list, listed, 6));
@@ -280,7 +280,10 @@ static void list_and_read(uint8_t *archive, size_t len) {
     answer("read of a lost file", 8, span_read(archive, len, data, 2, &consulted));
     expect("what a refused read left", consulted == 3 && data[0] == 0x5a && data[1] == 0x5a);
     answer("inventory, short list", 2, span_inventory(archive, len, list, 5, &count));
+    answer("inventory, bad archive and short list", 3, span_inventory(archive, len - 1, list, 5, &count));
     expect("what a refused inventory left", count == 4 && !memcmp(list, listed, 6));
+    answer("inventory of node 1", 0, span_inventory(archive, len, list, 6, &count));
+    expect("its list", count == 2 && !memcmp(list, left, 6));
     give_back("inventory's list", list, 6);
     give_back("read's file", data, 2);
 }

@@ -12,7 +12,9 @@ use Rattle.lists.proofs.AnyLaws.{none-at, orAll, any-of}
 use Rattle.answer.specs.declared.Refusal.{Refusal}
 use Rattle.answer.specs.declared.Outcome.{Outcome}
 use Rattle.answer.specs.declared.Outcome.the-variants.{Done, Refused}
+use Rattle.answer.specs.declared.Counted.the-variants.{Count, Refused as RefusedCount}
 use Rattle.answer.specs.Numbers.{refusalNumber}
+use Rattle.answer.specs.Counted.{counted}
 use Rattle.answer.specs.Refusals.{refuse, afterwards, differs, outside}
 
 -- a test that holds ends the chain, and one that fails hands it on
@@ -52,6 +54,21 @@ written before {new = new} is done made = made ∙ sym (after-done before new (s
 
 pub kept : {A : Type 0} {o answer : Outcome} {r : Refusal} {before : A} (new : A) → o ≡ answer → o ≡ Refused r → before ≡ afterwards answer before new
 kept {before = before} new is refusal = sym (after-refused before new (sym is ∙ refusal))
+
+-- the end of an operation that counts
+pub counted-written : {A : Type 0} {o : Outcome} {c k : ℕ} (before : A) {new w : A} → o ≡ Done → c ≡ k → w ≡ new
+    → (Count c ≡ counted o k) × (w ≡ afterwards o before new)
+unfolding afterwards
+counted-written before done e made = rw (done, e, made) (refl, refl)
+
+pub counted-kept : {A : Type 0} {o : Outcome} {r : Refusal} {before : A} (k : ℕ) (new : A) → o ≡ Refused r
+    → (RefusedCount r ≡ counted o k) × (before ≡ afterwards o before new)
+unfolding afterwards
+counted-kept k new refusal = rw refusal (refl, refl)
+
+pub counted-done : (o : Outcome) {k c : ℕ} → counted o k ≡ Count c → (o ≡ Done) × (k ≡ c)
+counted-done Done e = (refl, cc)
+counted-done (Refused r) e = let q : _≡_ {A = ℕ} 0 1 = cc in absurd (omega arith)
 
 -- what is known where nothing was refused
 pub accepted : (b : Bool) (r : Refusal) (next : Outcome) → refuse b r next ≡ Done → (b ≡ false) × (next ≡ Done)

@@ -2,8 +2,15 @@
 use Prim.Native.Nat.{ℕ}
 use mathlib.Core.Path.{_≡_}
 use Rattle.answer.specs.Numbers.{refusalNumber}
+use Rattle.answer.specs.declared.Outcome.{Outcome}
+use Rattle.answer.specs.declared.Outcome.the-variants.{Done, Refused as RefusedOutcome}
 use Rattle.answer.specs.declared.Counted.{Counted}
 use Rattle.answer.specs.declared.Counted.the-variants.{Count, Refused}
+
+-- a count of k where nothing is refused
+abbrev pub counted : Outcome → ℕ → Counted
+counted Done k = Count k
+counted (RefusedOutcome r) k = Refused r
 
 abbrev pub countedNumber : Counted → ℕ
 countedNumber (Count k) = 0

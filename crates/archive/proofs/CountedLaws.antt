@@ -1,18 +1,20 @@
 -- What Inventory and Read count fits a byte. Assumes nothing.
 use Prim.Native.Nat.{ℕ, _<_}
-use mathlib.Core.Path.{_≡_}
+use mathlib.Core.Path.{_≡_, refl}
 use mathlib.Core.Bool.{Bool, false}
 use mathlib.Core.List.{List}
 use native.Mathlib.Omega.{arith}
 use Rattle.answer.proofs.RefusalLaws.{accepted}
+use Rattle.answer.specs.declared.Outcome.{Outcome}
+use Rattle.answer.specs.declared.Outcome.the-variants.{Done, Refused as RefusedOutcome}
 use Rattle.answer.specs.declared.Counted.{Counted}
 use Rattle.answer.specs.declared.Counted.the-variants.{Count, Refused}
-use Rattle.answer.specs.Counted.{countedValue}
+use Rattle.answer.specs.Counted.{counted, countedValue}
 use Rattle.sizes.specs.Lengths.{placeCount}
 use Rattle.archive.specs.Layout.{sizesOf, markAt, badArchive}
 use Rattle.lists.specs.Lists.{howMany}
 use Rattle.archive.specs.Read.{ReadAllows}
-use Rattle.archive.specs.Inventory.{InventoryAllows}
+use Rattle.archive.specs.Inventory.{inventoryBefore, inventoryAnswer}
 use Rattle.archive.proofs.GoodArchiveLaws.{good-sizes}
 use Rattle.sizes.proofs.PlaceLaws.{count-low}
 use Rattle.lists.proofs.CountLaws.{howMany-most}
@@ -20,9 +22,13 @@ use Rattle.lists.proofs.CountLaws.{howMany-most}
 few : (s : List ℕ) (p : ℕ → Bool) → badArchive s ≡ false → howMany (placeCount (sizesOf s)) p < 256
 few s p good = omega (arith, howMany-most (placeCount (sizesOf s)) p, count-low _ (good-sizes s good))
 
-pub inventory-low : (s out : List ℕ) (a : Counted) (written : List ℕ) → InventoryAllows s out a written → countedValue a 0 < 256
-inventory-low s out (Count k) written w = rw (w .1 .number) (few s _ (accepted _ _ _ (w .0) .0))
-inventory-low s out (Refused r) written w = omega arith
+pub inventory-low : (s out : List ℕ) {a : Counted} → a ≡ inventoryAnswer s out → countedValue a 0 < 256
+unfolding inventoryAnswer
+inventory-low s out e = rw e (go (inventoryBefore (sizesOf s) s out) refl)
+  where
+    go : (o : Outcome) → inventoryBefore (sizesOf s) s out ≡ o → countedValue (counted o (howMany (placeCount (sizesOf s)) (markAt s))) 0 < 256
+    go Done e = few s (markAt s) (accepted _ _ _ e .0)
+    go (RefusedOutcome r) e = omega arith
 
 pub read-low : (s out : List ℕ) (a : Counted) (written : List ℕ) → ReadAllows s out a written → countedValue a 0 < 256
 read-low s out (Count k) written w = omega (arith, w .3 .most, few s (markAt s) (accepted _ _ _ (w .0) .0))

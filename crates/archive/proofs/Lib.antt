@@ -11,7 +11,7 @@ pub mod LoseLaws
 pub mod BlockLaws
 pub mod ReadLaws
 pub mod PlanLaws
-pub mod InventoryLaws
+pub mod ShelfLaws
 pub mod ListingLaws
 pub mod ProveCheckLaws
 pub mod CountedLaws

@@ -1,20 +1,44 @@
--- The operation Inventory (SCHEME, Operations), a relation: the order of its list is free. Refuses 3, 2.
+-- The operation Inventory (SCHEME, Operations): the filled places in shelf order. Refuses 3, 2.
 use Prim.Native.Nat.{ℕ, _+_, _*_, _/_, _%_, _<_, _≤_}
 use mathlib.Core.Path.{_≡_}
 use mathlib.Core.Bool.{Bool}
 use mathlib.Core.List.{List}
 use lib.ListN.{length}
 use lib.Dec.{eqb}
-use Rattle.lists.specs.Lists.{at, bit, howMany}
+use Rattle.lists.specs.Lists.{at, bit, howMany, filtered, zeroPadded}
 use Rattle.answer.specs.declared.Outcome.{Outcome}
-use Rattle.answer.specs.declared.Outcome.the-variants.{Done, Refused as RefusedOutcome}
+use Rattle.answer.specs.declared.Outcome.the-variants.{Done}
 use Rattle.answer.specs.declared.Refusal.the-variants.{Length, BadArchive}
-use Rattle.answer.specs.Refusals.{refuse, differs}
+use Rattle.answer.specs.Refusals.{refuse, afterwards, differs}
 use Rattle.sizes.specs.declared.Sizes.{Sizes}
 use Rattle.sizes.specs.Lengths.{placeCount}
-use Rattle.archive.specs.Layout.{sizesOf, filledIn, badArchive}
+use Rattle.archive.specs.Layout.{sizesOf, markAt, badArchive}
 use Rattle.answer.specs.declared.Counted.{Counted}
-use Rattle.answer.specs.declared.Counted.the-variants.{Count, Refused}
+use Rattle.answer.specs.Counted.{counted}
+
+-- ---- the list
+
+-- the byte that names place number k: 8 times the box plus the place
+abbrev pub placeCode : (z : Sizes) (k : ℕ) → ℕ
+placeCode z k = 8 * (k / z .places) + k % z .places
+
+-- shelf order: place numbers rise box by box, and within a box place by place; the codes of those that are filled, then zeros
+unfoldable pub shelf : (z : Sizes) (filled : ℕ → Bool) → List ℕ
+shelf z filled = zeroPadded (placeCount z) (filtered (placeCount z) filled (placeCode z))
+
+-- ---- the operation
+
+abbrev pub inventoryBefore : (z : Sizes) (s out : List ℕ) → Outcome
+inventoryBefore z s out = refuse (badArchive s) BadArchive (refuse (differs (length out) (placeCount z)) Length Done)
+
+-- the number of filled places
+unfoldable pub inventoryAnswer : (s out : List ℕ) → Counted
+inventoryAnswer s out = counted (inventoryBefore (sizesOf s) s out) (howMany (placeCount (sizesOf s)) (markAt s))
+
+unfoldable pub inventoryOut : (s out : List ℕ) → List ℕ
+inventoryOut s out = afterwards (inventoryBefore (sizesOf s) s out) out (shelf (sizesOf s) (markAt s))
+
+-- ---- what is shown of it
 
 -- the first `count` bytes name every filled place just once, and nothing else; zeros follow
 pub record Listed (z : Sizes) (filled : ℕ → ℕ → Bool) (count : ℕ) (list : List ℕ) : Type 0 where
@@ -25,12 +49,6 @@ pub record Listed (z : Sizes) (filled : ℕ → ℕ → Bool) (count : ℕ) (lis
   pub only : (j : ℕ) → j < count → (at list j / 8 < z .nodes) × (at list j % 8 < z .places)
   pub rest : (j : ℕ) → count ≤ j → j < placeCount z → at list j ≡ 0
 
-abbrev pub inventoryBefore : (z : Sizes) (s out : List ℕ) → Outcome
-inventoryBefore z s out = refuse (badArchive s) BadArchive (refuse (differs (length out) (placeCount z)) Length Done)
-
-abbrev pub InventoryFor : Sizes → List ℕ → List ℕ → Counted → List ℕ → Type 0
-InventoryFor z s out (Refused r) written = (written ≡ out) × (inventoryBefore z s out ≡ RefusedOutcome r)
-InventoryFor z s out (Count count) written = (inventoryBefore z s out ≡ Done) × Listed z (filledIn z s) count written
-
-abbrev pub InventoryAllows : (s out : List ℕ) (answer : Counted) (written : List ℕ) → Type 0
-InventoryAllows s out answer written = InventoryFor (sizesOf s) s out answer written
+-- the first `count` bytes rise
+abbrev pub Rising : (count : ℕ) (list : List ℕ) → Type 0
+Rising count list = (i j : ℕ) → i < j → j < count → at list i < at list j

@@ -1,4 +1,5 @@
 // Open: the worked header, and calls with any lengths and numbers.
+use crate::archives::counted;
 use cases::ID;
 use cases::counting_key;
 
@@ -32,6 +33,21 @@ fn filled(s: [u8; 36], node: usize) -> [u8; 36] {
     t
 }
 
+fn listed(s: [u8; 36]) {
+    let mut list = [0xffu8; 3];
+    let found = archive::inventory(&s, &mut list);
+    cases::number(
+        b"Nodes 0 and 2 filled: Inventory's number",
+        2,
+        counted(found) as u64,
+    );
+    cases::bytes(
+        b"Nodes 0 and 2 filled: Inventory's list",
+        &[0x00, 0x10, 0x00],
+        &list,
+    );
+}
+
 fn marks() {
     let s = filled(filled(worked(), 0), 2);
     cases::bytes(
@@ -39,6 +55,7 @@ fn marks() {
         &[0xa0, 0, 0, 0, 0, 0],
         &s[12..18],
     );
+    listed(s);
 }
 
 fn opened_with_tags(tags: usize, len: usize) -> [u8; 64] {

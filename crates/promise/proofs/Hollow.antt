@@ -3,9 +3,9 @@ use Prim.Native.Nat.{ℕ, zero, suc, _<_}
 use mathlib.Core.Path.{_≡_, refl, sym, ap, _∙_}
 use mathlib.Core.Bool.{Bool, true, false}
 use mathlib.Core.List.{List, [], _∷_}
-use mathlib.Core.Logic.{⊎-elim}
-use native.Mathlib.Nat.{div-add-mod'}
+use mathlib.Core.Logic.{⊎-elim, _≢_}
 use native.Mathlib.Omega.{arith}
+use lib.ListN.{length}
 use Rattle.lists.specs.Lists.{at, tab, flat, over, anyOf, anyBelow, howMany}
 use Rattle.answer.specs.declared.Outcome.the-variants.{Done, Refused as RefusedOutcome}
 use Rattle.answer.specs.declared.Refusal.the-variants.{Length, BadArchive, Unreadable, ZeroKeyVector, Malformed, ProvesNothing}
@@ -29,9 +29,9 @@ use Rattle.archive.specs.Blocks.{source, coded}
 use Rattle.archive.specs.Calls.{answerFor, archiveAnswer, archiveAfter}
 use Rattle.archive.specs.Prove.{namedByte}
 use Rattle.archive.specs.Read.{rowIn, Blind, ReadAllows}
-use Rattle.archive.specs.Inventory.{InventoryAllows}
+use Rattle.archive.specs.Inventory.{inventoryBefore, inventoryAnswer, inventoryOut}
 use Rattle.answer.specs.declared.Counted.the-variants.{Count, Refused}
-use Rattle.lists.proofs.CountLaws.{howMany-same}
+use Rattle.answer.proofs.RefusalLaws.{counted-done}
 use Rattle.promise.specs.Table.{Place, empty, Table, allEmpty, isFilled, numbered, written, tableRun}
 use Rattle.promise.specs.Image.{placeRecord}
 use Rattle.promise.specs.Demand3.{setting, Admitted}
@@ -129,9 +129,13 @@ not-unreadable false false e = let x : _≡_ {A = ℕ} 0 1 = cc in omega arith
 seen-blind : (s out written : List ℕ) → ReadAllows s out (Refused Unreadable) written → Blind (sizesOf s) (markAt s) (rowIn (sizesOf s) s)
 seen-blind s out written w = ⊎-elim (λ e. absurd (not-unreadable _ _ e)) (λ x. x .2) (w .1)
 
-counted-right : (s out list : List ℕ) (count : ℕ) → InventoryAllows s out (Count count) list → count ≡ howMany (placeCount (sizesOf s)) (markAt s)
-counted-right s out list count w =
-    w .1 .number ∙ howMany-same (placeCount (sizesOf s)) _ (markAt s) (λ k h. ap (markAt s) (div-add-mod' k (sizesOf s .places)))
+counted-right : (s out : List ℕ) (count : ℕ) → inventoryAnswer s out ≡ Count count → count ≡ howMany (placeCount (sizesOf s)) (markAt s)
+unfolding inventoryAnswer
+counted-right s out count e = sym (counted-done (inventoryBefore (sizesOf s) s out) e .1)
+
+-- a list that differs from the life's at some index
+other-list : (i : ℕ) (list out : List ℕ) → length out ≡ 6 → at (0x08 ∷ 0x09 ∷ 0x10 ∷ 0x11 ∷ 0x00 ∷ 0x00 ∷ []) i ≢ at list i → inventoryOut (L.archive 1 1) out ≢ list
+other-list i list out h differs e = differs (ap (λ (l : List ℕ). at l i) (sym (lived .0 .inventory-is out h .1) ∙ e))
 
 pub hollow : Hollow
 unfolding product sum times xtimes xtime modulus appended dataIn namedRow mixed coded source mask maskSum auxiliary flat responseBytes pack packed bitsOf bitOf widths number tab anyBelow fails accepts namedByte byteIn
@@ -160,5 +164,10 @@ hollow =
       one-place = one-place-only;
       seen = seen-blind;
       counted = counted-right;
+      shelved = λ out h. (
+        other-list 1 _ out h (λ e. omega arith),
+        other-list 0 _ out h (λ e. omega arith),
+        other-list 0 _ out h (λ e. omega arith),
+      );
       consulted = λ s out file count w. w .3;
     }

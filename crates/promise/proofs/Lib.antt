@@ -6,7 +6,7 @@ pub mod ReadAndInventoryLaws
 pub mod DemandLaws
 pub mod Unmask
 pub mod ReadFixed
-pub mod InventoryFixed
+pub mod InventoryLists
 pub mod PlanFixed
 pub mod PlanRepaired
 pub mod PlanRows

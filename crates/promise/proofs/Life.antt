@@ -7,11 +7,12 @@ use native.Mathlib.Omega.{arith}
 use lib.Dec.{lit≤}
 use lib.ListN.{length}
 use borrow.Author.Tests.{lt-leb}
-use Rattle.lists.specs.Lists.{at, tab, flat, over, anyOf, anyBelow, Bytes}
+use Rattle.lists.specs.Lists.{at, tab, zeroPadded, flat, over, anyOf, anyBelow, howMany, filtered, Bytes}
 use Rattle.lists.proofs.TabLaws.{length-tab, tab-at}
 use Rattle.lists.proofs.PutLaws.{flat-at}
 use Rattle.answer.specs.declared.Outcome.the-variants.{Done, Refused}
 use Rattle.answer.specs.declared.Refusal.the-variants.{Length, NoSuchPlace, PlaceEmpty, PlaceFilled}
+use Rattle.answer.specs.declared.Counted.the-variants.{Count}
 use Rattle.answer.specs.Refusals.{refuse, afterwards, outside}
 use Rattle.answer.proofs.RefusalLaws.{after-done}
 use Rattle.field.specs.Field.{sum, modulus, xtime, xtimes, times}
@@ -34,9 +35,10 @@ use Rattle.archive.specs.Open.{openAnswer}
 use Rattle.archive.specs.Blocks.{source, coded, codedRecord}
 use Rattle.archive.specs.Calls.{answerFor}
 use Rattle.archive.specs.Prove.{responseFor}
+use Rattle.archive.specs.Inventory.{shelf}
 use Rattle.promise.specs.Table.{allEmpty, isFilled, element, numbered, repairedRow, written, tableAnswers}
 use Rattle.promise.specs.Image.{image}
-use Rattle.promise.specs.Demand3.{Given, Admitted, setting, givenAuxiliary, Honest, message, Telling, Silent, namedBlock, expected, Demand}
+use Rattle.promise.specs.Demand3.{Given, Admitted, setting, givenAuxiliary, Honest, message, Telling, Silent, namedBlock, expected, tableFilled, Demand}
 use Rattle.promise.specs.Life as L
 use Rattle.promise.specs.Life.{Numbers, calls, table, archive, Lived}
 use Rattle.promise.proofs.ImageLaws.{recordOver, image-over}
@@ -102,6 +104,16 @@ Rows w =
 rows : Rows L.one × Rows L.three
 unfolding answerFor refuse anyOf anyBelow outside afterwards written over repairedRow mixed sum times xtimes xtime modulus tab
 rows = ((refl, refl, refl), (refl, refl, refl))
+
+-- the table's filled places: their number, and their list in shelf order
+abbrev Shelf : Numbers → Type 0
+Shelf w =
+    (howMany 6 (tableFilled (L.z (w .tags)) (table (w .tags))) ≡ 4)
+    × (shelf (L.z (w .tags)) (tableFilled (L.z (w .tags)) (table (w .tags))) ≡ 0x08 ∷ 0x09 ∷ 0x10 ∷ 0x11 ∷ 0x00 ∷ 0x00 ∷ [])
+
+shelves : Shelf L.one × Shelf L.three
+unfolding howMany shelf zeroPadded filtered numbered answerFor refuse anyOf anyBelow outside afterwards written over tab
+shelves = ((refl, refl), (refl, refl))
 
 abbrev Vectors : Numbers → Type 0
 Vectors w = flat (w .tags) 5 (λ s. at (vectorOut L.tagKey L.id 3 2 s (tab 5 (λ i. 0)))) ≡ w .vectorBytes
@@ -242,8 +254,8 @@ module _ (w : Numbers) (o : Opens w) (u : SetsUp w) where
           expectedBy : List ℕ → List ℕ
           expectedBy x = responseFor 3 (w .tags) L.id L.maskKey x (audited f .seed) 2 block (λ s. product 5 block (keyVector L.tagKey L.id s))
 
-  life : Answers w → (f : Filled w) → Rows w → Vectors w → Image → Elements → Expected f → Lived w
-  life answers f rows vectors image elements response =
+  life : Answers w → (f : Filled w) → Rows w → Shelf w → Vectors w → Image → Elements → Expected f → Lived w
+  life answers f rows shelved vectors image elements response =
       let d : Demand lives (calls (w .tags)) (table (w .tags)) (archive (w .layout) (w .tags)) = demand3 lives (calls (w .tags)) life-admitted in
       let sends = d .audits (audited f) .sends ∙ response in
       let telling : Telling lives (table (w .tags)) (archive (w .layout) (w .tags)) (audited f) =
@@ -255,6 +267,7 @@ module _ (w : Numbers) (o : Opens w) (u : SetsUp w) where
         admitted = life-admitted;
         answers = d .answers ∙ answers;
         archive-is = run-is lives (calls (w .tags)) life-admitted ∙ image;
+        inventory-is = λ out e. let i = d .inventory out .0 e in (i .0 ∙ ap Count (shelved .0), i .1 ∙ shelved .1);
         vectors-are = vectors;
         auxiliary-are = elements;
         audit = audited f;
@@ -288,6 +301,6 @@ responses-over = (refl, refl)
 
 pub lived : Lived L.one × Lived L.three
 lived = (
-  life L.one (opens .0) (sets-up .0) (table-answers .0) (all-filled .0) (rows .0) (vectors .0) (image-of L.one (opens .0) (sets-up .0) (vectors .0) (lit≤ tt) (images-over .0)) (elements .0) (expected-of L.one (opens .0) (sets-up .0) (vectors .0) (lit≤ tt) (all-filled .0) (elements .0) (responses-over .0)),
-  life L.three (opens .1) (sets-up .1) (table-answers .1) (all-filled .1) (rows .1) (vectors .1) (image-of L.three (opens .1) (sets-up .1) (vectors .1) (lit≤ tt) (images-over .1)) (elements .1) (expected-of L.three (opens .1) (sets-up .1) (vectors .1) (lit≤ tt) (all-filled .1) (elements .1) (responses-over .1)),
+  life L.one (opens .0) (sets-up .0) (table-answers .0) (all-filled .0) (rows .0) (shelves .0) (vectors .0) (image-of L.one (opens .0) (sets-up .0) (vectors .0) (lit≤ tt) (images-over .0)) (elements .0) (expected-of L.one (opens .0) (sets-up .0) (vectors .0) (lit≤ tt) (all-filled .0) (elements .0) (responses-over .0)),
+  life L.three (opens .1) (sets-up .1) (table-answers .1) (all-filled .1) (rows .1) (shelves .1) (vectors .1) (image-of L.three (opens .1) (sets-up .1) (vectors .1) (lit≤ tt) (images-over .1)) (elements .1) (expected-of L.three (opens .1) (sets-up .1) (vectors .1) (lit≤ tt) (all-filled .1) (elements .1) (responses-over .1)),
 )

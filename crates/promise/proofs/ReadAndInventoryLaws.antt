@@ -7,22 +7,22 @@ use mathlib.Core.Logic.{⊎-elim, _↔_, _≢_}
 use native.Mathlib.Omega.{arith}
 use lib.ListN.{length}
 use borrow.Author.Tests.{eq-eqb, ne-eqb}
-use Rattle.lists.specs.Lists.{at, bit, Bytes}
+use Rattle.lists.specs.Lists.{at, bit, howMany, Bytes}
 use Rattle.answer.specs.declared.Outcome.the-variants.{Done, Refused as RefusedOutcome}
 use Rattle.answer.specs.declared.Refusal.the-variants.{Length, BadArchive}
 use Rattle.answer.specs.Numbers.{refusalNumber}
-use Rattle.answer.specs.Refusals.{refuse, differs}
-use Rattle.answer.proofs.RefusalLaws.{never-both, same-refusal}
+use Rattle.answer.specs.Refusals.{refuse, afterwards, differs}
+use Rattle.answer.proofs.RefusalLaws.{never-both, counted-written, counted-kept}
 use Rattle.field.specs.Field.{times}
 use Rattle.field.proofs.SumLaws.{sum-same}
 use Rattle.sizes.specs.declared.Sizes.{Sizes}
 use Rattle.vector.specs.Vectors.{product, mixed}
 use Rattle.sizes.specs.Lengths.{placeCount, fileLength}
-use Rattle.archive.specs.Layout.{markAt, byteIn, badArchive}
+use Rattle.archive.specs.Layout.{sizesOf, markAt, byteIn, badArchive}
 use Rattle.archive.specs.Blocks.{coded}
 use Rattle.archive.specs.Read.{rowIn, Blind, among, Enough, ReadFor, ReadAllows}
-use Rattle.archive.specs.Inventory.{Listed, InventoryFor, InventoryAllows}
-use Rattle.answer.specs.Counted.{countedNumber, countedValue}
+use Rattle.archive.specs.Inventory.{shelf, inventoryBefore, inventoryAnswer, inventoryOut, Listed}
+use Rattle.answer.specs.Counted.{counted, countedNumber, countedValue}
 use Rattle.answer.specs.declared.Counted.{Counted}
 use Rattle.answer.specs.declared.Counted.the-variants.{Count, Refused}
 use Rattle.sizes.proofs.SizeLaws.{Ranged}
@@ -30,10 +30,11 @@ use Rattle.sizes.proofs.PlaceLaws.{count-low, node-of, place-of}
 use Rattle.archive.proofs.BlockLaws.{source-file}
 use Rattle.lists.proofs.CountLaws.{howMany-same}
 use Rattle.archive.proofs.ReadLaws.{blind-same, solution-only}
+use Rattle.archive.proofs.ShelfLaws.{shelf-same, shelf-listed}
 use Rattle.promise.specs.Table.{Place, Table, isFilled, element, numbered}
 use Rattle.promise.specs.Image.{Setting, image}
-use Rattle.promise.proofs.TableLaws.{Fine, AllFine, numbered-below}
-use Rattle.promise.proofs.ImageLaws.{Fit, image-sizes, image-good, image-mark, image-filled, image-number, image-rows, record-block}
+use Rattle.promise.proofs.TableLaws.{Fine, AllFine, numbered-at, numbered-below}
+use Rattle.promise.proofs.ImageLaws.{Fit, image-sizes, image-good, image-mark, image-number, image-rows, record-block}
 
 -- ---- two that agree on the places there are
 
@@ -82,26 +83,46 @@ module _ (s : Setting) (F : Fit s) (t : Table) (fine : AllFine (s .z) t) where
 
   -- ---- Inventory
 
-  -- what demand 3 says of an answer and a list
-  abbrev Inventoried : List ℕ → Counted → List ℕ → Type 0
-  Inventoried out answer list =
-      (length out ≡ placeCount (s .z)
-      → (countedNumber answer ≡ 0) × ((old : ℕ) → Listed (s .z) (λ node place. isFilled (t node place)) (countedValue answer old) list))
-      × (length out ≢ placeCount (s .z) → countedNumber answer ≡ 2)
-
-  pub inventory : (out : List ℕ) (answer : Counted) (list : List ℕ) → InventoryAllows A out answer list → Inventoried out answer list
-  inventory out answer list allows = go answer (subst (λ (z : Sizes). InventoryFor z A out answer list) (image-sizes s F t) allows)
-    where
-      go : (answer : Counted) → InventoryFor (s .z) A out answer list → Inventoried out answer list
-      go (Count k) w =
-          (λ e. (refl, λ old. listed-same (s .z) (F .ranged) _ _ (image-filled s F t) k list (w .1)), λ e. absurd (never-both (w .0) (before-wrong out _ e)))
-      go (Refused r) w =
-          (λ e. absurd (never-both (before-right out _ e) (w .1)), λ e. ap refusalNumber (same-refusal (w .1) (before-wrong out _ e)))
-
-  -- ---- Read
-
   mark-is : (k : ℕ) → k < placeCount (s .z) → markAt A k ≡ isF k
   mark-is k h = image-mark s F t k (omega (arith, count-low (s .z) (F .ranged)))
+
+  abbrev count : ℕ
+  count = howMany (placeCount (s .z)) isF
+
+  table-listed : Listed (s .z) (λ node place. isFilled (t node place)) count (shelf (s .z) isF)
+  table-listed =
+      listed-same (s .z) (F .ranged) _ _ (λ node place h hp. ap isFilled (numbered-at (s .z) (F .ranged) t node place h hp)) count _
+      (shelf-listed (s .z) (F .ranged) isF)
+
+  -- what demand 3 says of it, by the sizes that are read
+  abbrev Inventoried : Sizes → List ℕ → Type 0
+  Inventoried z out =
+      (length out ≡ placeCount (s .z)
+      → (counted (inventoryBefore z A out) (howMany (placeCount z) (markAt A)) ≡ Count count)
+      × (afterwards (inventoryBefore z A out) out (shelf z (markAt A)) ≡ shelf (s .z) isF)
+      × Listed (s .z) (λ node place. isFilled (t node place)) count (afterwards (inventoryBefore z A out) out (shelf z (markAt A))))
+      × (length out ≢ placeCount (s .z) → countedNumber (counted (inventoryBefore z A out) (howMany (placeCount z) (markAt A))) ≡ 2)
+
+  by-sizes : (out : List ℕ) → Inventoried (sizesOf A) out
+  by-sizes out =
+      let counts : count ≡ howMany (placeCount (s .z)) (markAt A) = sym (howMany-same (placeCount (s .z)) (markAt A) isF mark-is) in
+      let shelves : shelf (s .z) isF ≡ shelf (s .z) (markAt A) = sym (shelf-same (s .z) (markAt A) isF mark-is) in
+      subst (λ (z : Sizes). Inventoried z out) (sym (image-sizes s F t)) (
+        λ e.
+            let w = counted-written out (before-right out _ e) counts shelves in
+            (sym (w .0), sym (w .1), subst (Listed (s .z) (λ node place. isFilled (t node place)) count) (w .1) table-listed),
+        λ e. ap countedNumber (sym (counted-kept {before = out} _ out (before-wrong out _ e) .0)),
+      )
+
+  pub inventory : (out : List ℕ)
+      → (length out ≡ placeCount (s .z)
+      → (inventoryAnswer A out ≡ Count count) × (inventoryOut A out ≡ shelf (s .z) isF)
+      × Listed (s .z) (λ node place. isFilled (t node place)) count (inventoryOut A out))
+      × (length out ≢ placeCount (s .z) → countedNumber (inventoryAnswer A out) ≡ 2)
+  unfolding inventoryAnswer inventoryOut
+  inventory = by-sizes
+
+  -- ---- Read
 
   fine-at : (k : ℕ) → k < placeCount (s .z) → Fine (s .z) (numbered (s .z) t k)
   fine-at k h = subst (Fine (s .z)) (sym (numbered-below (s .z) (F .ranged) t k h)) (fine (k / s .z .places) (k % s .z .places))

@@ -1,31 +1,29 @@
 -- What a reader would try. Assumes nothing.
-use mathlib.Core.Path.{_≡_, refl, sym, subst}
+use mathlib.Core.Path.{_≡_, refl, sym, ap, _∙_}
 use mathlib.Core.Bool.{false}
 use mathlib.Core.List.{List, [], _∷_}
 use mathlib.Core.Logic.{_≢_}
-use Prim.Native.Nat.{ℕ, zero, suc, _+_, _*_, _/_, _%_, _<_, _≤_}
+use Prim.Native.Nat.{ℕ}
 use native.Mathlib.Omega.{arith}
-use lib.Dec.{eqb}
-use Rattle.lists.specs.Lists.{at, tab, anyOf, anyBelow, bit, Bytes, howMany}
+use Rattle.lists.specs.Lists.{at, tab, zeroPadded, anyOf, anyBelow, bit, howMany, filtered, Bytes}
 use Rattle.answer.specs.declared.Refusal.{Refusal}
 use Rattle.answer.specs.declared.Refusal.the-variants.{Size, Length, BadArchive, NoSuchPlace, PlaceEmpty, PlaceFilled, ZeroKeyVector, Unreadable, Malformed, ProvesNothing, NoPlan}
 use Rattle.answer.specs.declared.Outcome.the-variants.{Done}
 use Rattle.answer.specs.Numbers.{refusalNumber}
-use Rattle.answer.specs.Refusals.{refuse, outside}
+use Rattle.answer.specs.Refusals.{refuse, afterwards, outside}
 use Rattle.bits.specs.Fields.{bitOf, bitsOf, widths, number, packed, pack, bitAt, fieldAt}
-use Rattle.sizes.specs.declared.Sizes.{Sizes}
 use Rattle.sizes.specs.Sizes.{sizesOutside}
 use Rattle.message.specs.Challenge.{Challenge, challengeOf, malformedChallenge, challengeAnswer, challengeOut}
 use Rattle.message.proofs.ChallengeLaws.{in-rule, asked-even, asked-rule, asked-bytes, challenge-back as read-back, well-formed}
-use Rattle.archive.specs.Layout.{layoutOutside, tagField, layoutOf, sizesOf, markAt, filledIn, badFor, badArchive}
+use Rattle.archive.specs.Layout.{layoutOutside, tagField, layoutOf, sizesOf, markAt, badFor, badArchive}
 use Rattle.archive.specs.Open.{openAnswer}
-use Rattle.archive.specs.Inventory.{inventoryBefore, InventoryFor, InventoryAllows}
+use Rattle.archive.specs.Inventory.{shelf, inventoryAnswer, inventoryOut}
 use Rattle.answer.specs.declared.Counted.the-variants.{Count}
+use Rattle.answer.specs.Counted.{countedNumber}
 use Rattle.sizes.proofs.SizeLaws.{ranged}
 use Rattle.promise.specs.Worked as W
 use Rattle.promise.specs.SmallCases.{headed, SmallCases}
 use Rattle.promise.proofs.ImageLaws.{image-good, opened-is}
-use Rattle.promise.proofs.Worked.{two-sizes}
 use Rattle.promise.proofs.PlanCases.{planned-two, unplanned-one}
 
 not-ten : (r : Refusal) → refusalNumber r ≢ 10
@@ -50,45 +48,19 @@ both-back c lent asked bytes =
 
 -- ---- Inventory of the archive with two places
 
-lent-right : inventoryBefore W.z W.two (0 ∷ 0 ∷ 0 ∷ []) ≡ Done
-unfolding refuse badFor layoutOutside tagField layoutOf sizesOutside outside anyOf anyBelow sizesOf fieldAt bitAt number markAt
-lent-right = refl
+two-listed : (a b c : ℕ)
+    → (inventoryAnswer W.two (a ∷ b ∷ c ∷ []) ≡ Count 2) × (inventoryOut W.two (a ∷ b ∷ c ∷ []) ≡ 0x00 ∷ 0x10 ∷ 0x00 ∷ [])
+unfolding inventoryAnswer inventoryOut refuse afterwards badFor layoutOutside tagField layoutOf sizesOutside outside anyOf anyBelow sizesOf fieldAt bitAt number markAt howMany shelf zeroPadded filtered tab
+two-listed a b c = (refl, refl)
 
-once-each : (node place : ℕ) → node < 3 → place < 1
-    → howMany 2 (λ j. eqb (at (16 ∷ 0 ∷ 0 ∷ []) j) (8 * node + place)) ≡ bit (filledIn W.z W.two node place)
-unfolding howMany markAt bitAt
-once-each zero zero h hp = refl
-once-each (suc zero) zero h hp = refl
-once-each (suc (suc zero)) zero h hp = refl
-once-each (suc (suc (suc node))) zero h hp = absurd (omega arith)
-once-each node (suc place) h hp = absurd (omega arith)
+lent-wrong : (a b : ℕ)
+    → (countedNumber (inventoryAnswer W.two (a ∷ b ∷ [])) ≡ 2) × (inventoryOut W.two (a ∷ b ∷ []) ≡ a ∷ b ∷ [])
+    × (countedNumber (inventoryAnswer W.two []) ≡ 2)
+unfolding inventoryAnswer inventoryOut refuse afterwards badFor layoutOutside tagField layoutOf sizesOutside outside anyOf anyBelow sizesOf fieldAt bitAt number markAt
+lent-wrong a b = (refl, refl, refl)
 
-two-only : (j : ℕ) → j < 2 → (at (16 ∷ 0 ∷ 0 ∷ []) j / 8 < 3) × (at (16 ∷ 0 ∷ 0 ∷ []) j % 8 < 1)
-two-only zero h = (omega arith, omega arith)
-two-only (suc zero) h = (omega arith, omega arith)
-two-only (suc (suc j)) h = absurd (omega arith)
-
-zero-rest : (j : ℕ) → 2 ≤ j → j < 3 → at (16 ∷ 0 ∷ 0 ∷ []) j ≡ 0
-zero-rest zero h l = absurd (omega arith)
-zero-rest (suc zero) h l = absurd (omega arith)
-zero-rest (suc (suc zero)) h l = refl
-zero-rest (suc (suc (suc j))) h l = absurd (omega arith)
-
-two-number : 2 ≡ howMany 3 (λ k. filledIn W.z W.two (k / 1) (k % 1))
-unfolding howMany markAt bitAt
-two-number = refl
-
-two-listed : InventoryAllows W.two (0 ∷ 0 ∷ 0 ∷ []) (Count 2) (16 ∷ 0 ∷ 0 ∷ [])
-two-listed =
-    subst (λ (z : Sizes). InventoryFor z W.two (0 ∷ 0 ∷ 0 ∷ []) (Count 2) (16 ∷ 0 ∷ 0 ∷ [])) (sym two-sizes)
-    (lent-right, record { size = refl; number = two-number; once = once-each; only = two-only; rest = zero-rest })
-
-not-twice : ¬ InventoryAllows W.two (0 ∷ 0 ∷ 0 ∷ []) (Count 2) (16 ∷ 16 ∷ 0 ∷ [])
-unfolding howMany markAt bitAt
-not-twice w =
-    let v = subst (λ (z : Sizes). InventoryFor z W.two (0 ∷ 0 ∷ 0 ∷ []) (Count 2) (16 ∷ 16 ∷ 0 ∷ [])) two-sizes w in
-    let e : _≡_ {A = ℕ} 2 1 = v .1 .once 2 0 (omega arith) (omega arith) in
-    omega arith
+falls-not : (a b c : ℕ) → inventoryOut W.two (a ∷ b ∷ c ∷ []) ≢ 0x10 ∷ 0x00 ∷ 0x00 ∷ []
+falls-not a b c e = let x : _≡_ {A = ℕ} 0 16 = ap (λ (l : List ℕ). at l 0) (sym (two-listed a b c .1) ∙ e) in omega arith
 
 -- ---- bad headers
 
@@ -118,7 +90,9 @@ smallCases =
       bad-headers = all-bad;
       marks-a0 = refl;
       listed = two-listed;
-      twice = not-twice;
+      not-falling = falls-not;
+      two-lent = λ a b. (lent-wrong a b .0, lent-wrong a b .1);
+      none-lent = lent-wrong 0 0 .2;
       planned = planned-two;
       out-of-reach = unplanned-one;
     }

@@ -1,17 +1,16 @@
--- What stands beside demand 3: unmasking, and that Read and Inventory leave free no more than the scheme does.
+-- What stands beside demand 3: unmasking, that Read leaves free no more than the scheme does, and what Inventory lists.
 use Prim.Native.Nat.{ℕ, _-_}
 use mathlib.Core.Path.{_≡_}
 use mathlib.Core.List.{List}
 use lib.ListN.{length}
-use lib.Dec.{eqb}
-use Rattle.lists.specs.Lists.{at, tab, howMany}
+use Rattle.lists.specs.Lists.{tab}
 use Rattle.answer.specs.declared.Outcome.the-variants.{Done}
 use Rattle.message.specs.Unmask.{unmaskAnswer, unmaskOut}
 use Rattle.message.specs.Challenge.{challengeOf}
-use Rattle.archive.specs.Layout.{sizesOf, idOf}
+use Rattle.archive.specs.Layout.{sizesOf, idOf, filledIn}
 use Rattle.archive.specs.Prove.{proveAnswer, proveOut, namedByte}
 use Rattle.archive.specs.Read.{ReadAllows}
-use Rattle.archive.specs.Inventory.{InventoryAllows}
+use Rattle.archive.specs.Inventory.{inventoryAnswer, inventoryOut, Listed, Rising}
 use Rattle.answer.specs.declared.Counted.{Counted}
 use Rattle.answer.specs.declared.Counted.the-variants.{Count, Refused}
 
@@ -38,9 +37,8 @@ ReadIsFixed =
     (s out : List ℕ) (a a′ : Counted) (file file′ : List ℕ) → ReadAllows s out a file → ReadAllows s out a′ file′
     → SameButCount a a′ × (file ≡ file′)
 
--- the same answer, and a list with the same entries, each as often
-abbrev pub InventoryIsFixed : Type 0
-InventoryIsFixed =
-    (s out : List ℕ) (a a′ : Counted) (list list′ : List ℕ) → InventoryAllows s out a list → InventoryAllows s out a′ list′
-    → (a ≡ a′) × (length list ≡ length list′)
-    × ((code : ℕ) → howMany (length list) (λ j. eqb (at list j) code) ≡ howMany (length list′) (λ j. eqb (at list′ j) code))
+-- Inventory of any archive names each filled place once and nothing else, the codes rising, and zeros follow
+abbrev pub InventoryLists : Type 0
+InventoryLists =
+    (s out : List ℕ) (count : ℕ) → inventoryAnswer s out ≡ Count count
+    → Listed (sizesOf s) (filledIn (sizesOf s) s) count (inventoryOut s out) × Rising count (inventoryOut s out)

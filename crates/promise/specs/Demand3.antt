@@ -2,10 +2,10 @@
 use Prim.Native.Nat.{ℕ, _+_, _<_}
 use mathlib.Core.Path.{_≡_}
 use mathlib.Core.Logic.{_↔_, _≢_}
-use mathlib.Core.Bool.{true}
+use mathlib.Core.Bool.{Bool, true}
 use mathlib.Core.List.{List, [], _∷_}
 use lib.ListN.{length}
-use Rattle.lists.specs.Lists.{at, tab, flat, Bytes}
+use Rattle.lists.specs.Lists.{at, tab, flat, howMany, Bytes}
 use Rattle.answer.specs.declared.Outcome.the-variants.{Done}
 use Rattle.answer.specs.declared.Refusal.the-variants.{ProvesNothing}
 use Rattle.field.specs.Field.{plus}
@@ -24,9 +24,10 @@ use Rattle.archive.specs.Blocks.{coded}
 use Rattle.archive.specs.Calls.{Call, encode, lose, repair, archiveAnswers, archiveRun}
 use Rattle.archive.specs.Prove.{proveAnswer, responseFor, proveOut}
 use Rattle.archive.specs.Read.{rowIn, Blind, Enough, ReadAllows}
-use Rattle.archive.specs.Inventory.{Listed, InventoryAllows}
+use Rattle.archive.specs.Inventory.{shelf, inventoryAnswer, inventoryOut, Listed}
 use Rattle.answer.specs.Counted.{countedNumber, countedValue}
 use Rattle.answer.specs.declared.Counted.{Counted}
+use Rattle.answer.specs.declared.Counted.the-variants.{Count}
 use Rattle.promise.specs.Table.{filled, Table, allEmpty, isFilled, element, numbered, tableAnswer, tableAfter, tableAnswers, tableRun}
 use Rattle.promise.specs.Image.{Setting, vector}
 
@@ -152,22 +153,31 @@ pub record HoldsCoded (g : Given) (archive : List ℕ) (k : ℕ) (row : List ℕ
       → byteIn (g .z) archive k (blockLength (g .z) + s)
       ≡ product (blockLength (g .z)) (coded (g .z) (g .file) (g .padding) (at row)) (vector (setting g) s)
 
+-- whether the table's place number k is filled
+abbrev pub tableFilled : (z : Sizes) (t : Table) (k : ℕ) → Bool
+tableFilled z t k = isFilled (numbered z t k)
+
+abbrev pub tableCount : (z : Sizes) (t : Table) → ℕ
+tableCount z t = howMany (placeCount z) (tableFilled z t)
+
 -- a vector of m bytes, not all zero, is orthogonal to all rows in the table
 abbrev pub TableBlind : (z : Sizes) (t : Table) → Type 0
-TableBlind z t = Blind z (λ k. isFilled (numbered z t k)) (λ k. element (numbered z t k))
+TableBlind z t = Blind z (tableFilled z t) (λ k. element (numbered z t k))
 
 pub record Demand (g : Given) (calls : List Call) (t : Table) (archive : List ℕ) : Type 0 where
   -- the archive answers, marks and stores rows as the table does
   pub answers : archiveAnswers (openOut (g .layout) (g .z) (g .id) (g .lent)) calls ≡ tableAnswers (g .z) allEmpty calls
-  pub marks : (k : ℕ) → k < markCount → markAt archive k ≡ isFilled (numbered (g .z) t k)
+  pub marks : (k : ℕ) → k < markCount → markAt archive k ≡ tableFilled (g .z) t k
   pub rows : (node place : ℕ) (row : List ℕ) → node < g .z .nodes → place < g .z .places → t node place ≡ filled row
       → tab (g .z .m) (rowIn (g .z) archive (placeNumber (g .z) node place)) ≡ row
-  -- Inventory lists the table's filled places, each once, and hands back their number, whatever stood there before; lent another length, it
-  -- refuses with 2
-  pub inventory : (out : List ℕ) (answer : Counted) (list : List ℕ) → InventoryAllows archive out answer list
+  -- Inventory counts the table's filled places and lists them in shelf order, each once and nothing else, whatever stood there before; lent
+  -- another length, it refuses with 2
+  pub inventory : (out : List ℕ)
       → (length out ≡ placeCount (g .z)
-      → (countedNumber answer ≡ 0) × ((old : ℕ) → Listed (g .z) (λ node place. isFilled (t node place)) (countedValue answer old) list))
-      × (length out ≢ placeCount (g .z) → countedNumber answer ≡ 2)
+      → (inventoryAnswer archive out ≡ Count (tableCount (g .z) t))
+      × (inventoryOut archive out ≡ shelf (g .z) (tableFilled (g .z) t))
+      × Listed (g .z) (λ node place. isFilled (t node place)) (tableCount (g .z) t) (inventoryOut archive out))
+      × (length out ≢ placeCount (g .z) → countedNumber (inventoryAnswer archive out) ≡ 2)
   -- what stands in each filled place
   pub places : (node place : ℕ) (row : List ℕ) → node < g .z .nodes → place < g .z .places → t node place ≡ filled row
       → HoldsCoded g archive (placeNumber (g .z) node place) row
@@ -188,7 +198,7 @@ pub record Demand (g : Given) (calls : List Call) (t : Table) (archive : List �
       → ((countedNumber answer ≡ 8) ↔ TableBlind (g .z) t)
       × ((¬ TableBlind (g .z) t)
       → (countedNumber answer ≡ 0) × (file ≡ g .file)
-      × ((old : ℕ) → Enough (g .z) (λ k. isFilled (numbered (g .z) t k)) (λ k. element (numbered (g .z) t k)) (countedValue answer old)))
+      × ((old : ℕ) → Enough (g .z) (tableFilled (g .z) t) (λ k. element (numbered (g .z) t k)) (countedValue answer old)))
 
 -- for every list of calls, on the archive and on a table that was empty at first
 abbrev pub Demand3 : Type 0

@@ -6,6 +6,7 @@ use mathlib.Core.Logic.{_≢_}
 use mathlib.Core.Bool.{Bool, true, false}
 use mathlib.Core.List.{List, [], _∷_, _++_}
 use lib.Dec.{eqb}
+use lib.ListN.{length}
 use Rattle.lists.specs.Lists.{at, tab, howMany}
 use Rattle.answer.specs.declared.Outcome.the-variants.{Done, Refused as RefusedOutcome}
 use Rattle.answer.specs.declared.Refusal.the-variants.{Unreadable, ZeroKeyVector, Malformed, ProvesNothing}
@@ -23,7 +24,7 @@ use Rattle.archive.specs.Layout.{sizesOf, markAt, byteIn}
 use Rattle.archive.specs.Open.{openOut}
 use Rattle.archive.specs.Calls.{Call, encode, archiveAnswer, archiveAfter}
 use Rattle.archive.specs.Read.{rowIn, Blind, Enough, ReadAllows}
-use Rattle.archive.specs.Inventory.{InventoryAllows}
+use Rattle.archive.specs.Inventory.{inventoryAnswer, inventoryOut}
 use Rattle.answer.specs.declared.Counted.the-variants.{Count, Refused}
 use Rattle.promise.specs.Worked as W
 use Rattle.promise.specs.Life as L
@@ -45,8 +46,8 @@ altered d x =
 abbrev pub threeAgree : List ℕ → Bool
 threeAgree = accepts (L.z 3) (λ s e. at (L.three .vectorBytes) (s * 5 + e)) (at (0xc8 ∷ 0xde ∷ []))
 
--- what Verdict says of a response that is zeros behind its first byte, by the life's key and sizes, two rows and a challenge for both places
--- of node 2
+-- what Verdict says of a response that is zeros behind its first byte, by the life's key and sizes, two rows and a challenge for both
+-- places of node 2
 abbrev pub ofZeros : (first : ℕ) (rows coefficients : List ℕ) → Judgement
 ofZeros first rows coefficients =
     verdictOf L.tagKey L.id (L.z 1) rows (challengeBytes (challengeFor 2 (0 ∷ 1 ∷ []) coefficients))
@@ -98,8 +99,12 @@ pub record Hollow : Type 0 where
   -- a Read that does not look: 8 comes with a vector that is orthogonal to every filled row
   pub seen : (s out written : List ℕ) → ReadAllows s out (Refused Unreadable) written → Blind (sizesOf s) (markAt s) (rowIn (sizesOf s) s)
   -- an invented number from Inventory: it is that of the filled places
-  pub counted : (s out list : List ℕ) (count : ℕ) → InventoryAllows s out (Count count) list
-      → count ≡ howMany (placeCount (sizesOf s)) (markAt s)
+  pub counted : (s out : List ℕ) (count : ℕ) → inventoryAnswer s out ≡ Count count → count ≡ howMany (placeCount (sizesOf s)) (markAt s)
+  -- an Inventory that goes by place, then box, one that falls, and one with its zeros in front: none lists the life's archive so
+  pub shelved : (out : List ℕ) → length out ≡ 6
+      → (inventoryOut (L.archive 1 1) out ≢ 0x08 ∷ 0x10 ∷ 0x09 ∷ 0x11 ∷ 0x00 ∷ 0x00 ∷ [])
+      × (inventoryOut (L.archive 1 1) out ≢ 0x11 ∷ 0x10 ∷ 0x09 ∷ 0x08 ∷ 0x00 ∷ 0x00 ∷ [])
+      × (inventoryOut (L.archive 1 1) out ≢ 0x00 ∷ 0x00 ∷ 0x08 ∷ 0x09 ∷ 0x10 ∷ 0x11 ∷ [])
   -- too small a number from Read: at least m places were consulted, and they suffice
   pub consulted : (s out file : List ℕ) (count : ℕ) → ReadAllows s out (Count count) file
       → Enough (sizesOf s) (markAt s) (rowIn (sizesOf s) s) count

@@ -4,8 +4,10 @@
 use Prim.Native.Nat.{ℕ, _*_}
 use mathlib.Core.Path.{_≡_, refl}
 use mathlib.Core.List.{List, [], _∷_}
+use lib.ListN.{length}
 use Rattle.lists.specs.Lists.{at, tab, flat, Bytes}
 use Rattle.answer.specs.declared.Outcome.the-variants.{Done, Refused}
+use Rattle.answer.specs.declared.Counted.the-variants.{Count}
 use Rattle.answer.specs.declared.Refusal.the-variants.{Length, NoSuchPlace, PlaceEmpty, PlaceFilled, ProvesNothing}
 use Rattle.sizes.specs.declared.Sizes.{Sizes}
 use Rattle.sizes.specs.Lengths.{recordLength, archiveLength, auxiliaryLength}
@@ -13,6 +15,7 @@ use Rattle.tag.specs.Vector.{vectorOut}
 use Rattle.mask.specs.Setup.{setupAnswer}
 use Rattle.audit.specs.declared.Judgement.the-variants.{Accepted, Refused as RefusedJudgement}
 use Rattle.archive.specs.Open.{openAnswer, openOut}
+use Rattle.archive.specs.Inventory.{inventoryAnswer, inventoryOut}
 use Rattle.archive.specs.Calls.{Call, encode, lose, repair, archiveAnswers, archiveRun}
 use Rattle.promise.specs.Table.{Table, allEmpty, tableRun}
 use Rattle.promise.specs.Demand3.{Given, givenAuxiliary, Admitted, Honest, message, sent, says, Telling, Silent}
@@ -149,6 +152,10 @@ pub record Lived (w : Numbers) : Type 0 where
   pub answers : archiveAnswers (openOut (w .layout) (z (w .tags)) id (lent (w .tags))) (calls (w .tags))
       ≡ Done ∷ Refused PlaceFilled ∷ Done ∷ Refused Length ∷ Done ∷ Refused PlaceEmpty ∷ Done ∷ Refused NoSuchPlace ∷ Done ∷ Done ∷ []
   pub archive-is : archive (w .layout) (w .tags) ≡ w .archiveBytes
+  -- whatever Inventory is lent: both places of nodes 1 and 2, in shelf order
+  pub inventory-is : (out : List ℕ) → length out ≡ 6
+      → (inventoryAnswer (archive (w .layout) (w .tags)) out ≡ Count 4)
+      × (inventoryOut (archive (w .layout) (w .tags)) out ≡ 0x08 ∷ 0x09 ∷ 0x10 ∷ 0x11 ∷ 0x00 ∷ 0x00 ∷ [])
   pub vectors-are : flat (w .tags) 5 (λ s. at (vectorOut tagKey id 3 2 s (tab 5 (λ i. 0)))) ≡ w .vectorBytes
   pub auxiliary-are : givenAuxiliary (given (w .layout) (w .tags) opens sets-up file-bytes) ≡ w .auxiliaryBytes
   -- node 2, places 0 and 1, coefficients 07 and b5

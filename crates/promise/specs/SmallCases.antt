@@ -17,9 +17,10 @@ use Rattle.sizes.specs.Lengths.{archiveLength}
 use Rattle.archive.specs.Layout.{layoutOutside, sizeFields, badArchive}
 use Rattle.archive.specs.Open.{opened, openAnswer}
 use Rattle.lists.specs.Lists.{at, tab, bit, Bytes}
-use Rattle.archive.specs.Inventory.{InventoryAllows}
+use Rattle.archive.specs.Inventory.{inventoryAnswer, inventoryOut}
 use Rattle.archive.specs.Plan.{PlanAllows}
 use Rattle.answer.specs.declared.Counted.the-variants.{Count}
+use Rattle.answer.specs.Counted.{countedNumber}
 use Rattle.promise.specs.Table.{Table, allEmpty}
 use Rattle.promise.specs.Image.{Setting, image}
 use Rattle.promise.specs.Worked as W
@@ -67,9 +68,14 @@ pub record SmallCases : Type 0 where
   -- headers that are bad: no such layout, layout 1 with tags, layout 2 with none or eleven, the spare bit
   pub bad-headers : tab 5 (λ i. bit (badArchive (headed i))) ≡ 1 ∷ 1 ∷ 1 ∷ 1 ∷ 1 ∷ []
   pub marks-a0 : packed 6 marks ≡ 0xa0 ∷ 0 ∷ 0 ∷ 0 ∷ 0 ∷ 0 ∷ []
-  -- Inventory of that archive may list place 0 of box 2 first, 8·2+0, then that of box 0; not a place twice
-  pub listed : InventoryAllows W.two (0 ∷ 0 ∷ 0 ∷ []) (Count 2) (16 ∷ 0 ∷ 0 ∷ [])
-  pub twice : ¬ InventoryAllows W.two (0 ∷ 0 ∷ 0 ∷ []) (Count 2) (16 ∷ 16 ∷ 0 ∷ [])
+  -- Inventory of that archive counts two, whatever it was lent, and lists place 0 of box 0, then that of box 2, 8·2+0; not box 2 first
+  pub listed : (a b c : ℕ)
+      → (inventoryAnswer W.two (a ∷ b ∷ c ∷ []) ≡ Count 2) × (inventoryOut W.two (a ∷ b ∷ c ∷ []) ≡ 0x00 ∷ 0x10 ∷ 0x00 ∷ [])
+  pub not-falling : (a b c : ℕ) → inventoryOut W.two (a ∷ b ∷ c ∷ []) ≢ 0x10 ∷ 0x00 ∷ 0x00 ∷ []
+  -- lent two bytes or none, it refuses with 2 and leaves them
+  pub two-lent : (a b : ℕ)
+      → (countedNumber (inventoryAnswer W.two (a ∷ b ∷ [])) ≡ 2) × (inventoryOut W.two (a ∷ b ∷ []) ≡ a ∷ b ∷ [])
+  pub none-lent : countedNumber (inventoryAnswer W.two []) ≡ 2
   -- its rows are 01 00 and 02 03: boxes 0 and 2 give the row 00 03 by the thetas 02 01, and box 0 alone does not reach it
   pub planned : PlanAllows W.two (0 ∷ 2 ∷ []) 1 (1 ∷ 1 ∷ []) (0 ∷ 3 ∷ []) (0 ∷ 0 ∷ []) Done (2 ∷ 1 ∷ [])
   pub out-of-reach : PlanAllows W.two (0 ∷ []) 1 (1 ∷ []) (0 ∷ 3 ∷ []) (0 ∷ []) (Refused NoPlan) (0 ∷ [])

@@ -4,7 +4,7 @@ ghost use Rattle.promise.specs.Life.{one, three, Lived};
 ghost use Rattle.promise.specs.Worked.{Worked};
 ghost use Rattle.promise.specs.SmallCases.{SmallCases};
 ghost use Rattle.promise.specs.Hollow.{Hollow};
-ghost use Rattle.promise.specs.Companions.{Unmasking, ReadIsFixed, InventoryIsFixed};
+ghost use Rattle.promise.specs.Companions.{Unmasking, ReadIsFixed, InventoryLists};
 ghost use Rattle.promise.specs.Plans.{PlanIsFixed, PlannedRepair, NoThetas, PlanReadsRows};
 
 // Demand 3: a single claim about every list of Encode, Lose and Repair calls.
@@ -22,9 +22,9 @@ pub fn read_is_fixed()
     ensures { λ _. ⌜ ReadIsFixed ⌝ }
 {}
 
-// Inventory's number is fixed, and its list up to the order.
-pub fn inventory_is_fixed()
-    ensures { λ _. ⌜ InventoryIsFixed ⌝ }
+// Inventory lists each filled place once and nothing else, of every archive.
+pub fn inventory_lists()
+    ensures { λ _. ⌜ InventoryLists ⌝ }
 {}
 
 // A plan is fixed for every archive.

@@ -17,7 +17,7 @@ ghost use Rattle.archive.specs.Calls.{archiveAnswer, archiveAfter, scratchAfter
 ghost use Rattle.archive.specs.Prove.{proveAnswer, proveOut};
 ghost use Rattle.answer.specs.declared.Counted.{Counted};
 ghost use Rattle.answer.specs.Counted.{countedNumber, countedValue, CountedAnswer};
-ghost use Rattle.archive.specs.Inventory.{InventoryAllows};
+ghost use Rattle.archive.specs.Inventory.{inventoryAnswer, inventoryOut};
 ghost use Rattle.archive.specs.Read.{ReadAllows};
 ghost use Rattle.archive.specs.Plan.{PlanAllows};
 ghost use Rattle.sizes.specs.declared.Sizes.{Sizes};
@@ -336,10 +336,10 @@ fn tell(answer: Counted, value: &mut u8) -> u8
 
 #[no_mangle]
 pub extern "C" fn span_inventory(archive: &[u8], list: &mut [u8], count: &mut u8) -> u8
-    ensures { λ r.
-        let archive = now (archive .entry) in
-        let allows : Counted → Type 0 = λ answer. InventoryAllows archive (now (list .entry)) answer (now (list .exit)) in
-        ⌜ CountedAnswer allows r (now (count .entry)) (now (count .exit)) ⌝ }
+    ensures number { λ r. ⌜ r ≡ countedNumber (inventoryAnswer (now (archive .entry)) (now (list .entry))) ⌝ }
+    ensures value { λ _.
+        ⌜ now (count .exit) ≡ countedValue (inventoryAnswer (now (archive .entry)) (now (list .entry))) (now (count .entry)) ⌝ }
+    ensures output { λ _. ⌜ now (list .exit) ≡ inventoryOut (now (archive .entry)) (now (list .entry)) ⌝ }
 {
     tell(archive::inventory(archive, list), count)
 }

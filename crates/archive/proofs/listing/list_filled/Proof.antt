@@ -6,16 +6,16 @@ use mathlib.Core.Logic.{⊎-elim}
 use native.Mathlib.Omega.{arith}
 use Rattle.sizes.specs.declared.Sizes.{Sizes}
 use Rattle.sizes.specs.Lengths.{placeCount}
-use Rattle.archive.specs.Layout.{sizesOf}
+use Rattle.archive.specs.Layout.{sizesOf, markAt}
 use Rattle.sizes.proofs.PlaceLaws.{count-low}
 use Rattle.archive.proofs.GoodArchiveLaws.{good-sizes, good-length}
-use Rattle.archive.proofs.ListingLaws.{Listing, count-read, few, parts-low, listing-none, listing-skip, listing-take, listing-all}
+use Rattle.archive.proofs.ListingLaws.{Listing, count-read, few, parts-low, listing-size, listing-none, listing-skip, listing-take, listing-all}
 use Rattle.archive.proofs.listing.list_filled.Statement.{statement}
 use Rattle.archive.proofs.listing.list_filled.Tie as tie
 
 abbrev Inv-loop : tie.InvT-loop
 Inv-loop archive list₀ places count₀ k₀ k-end list count k =
-    (k ≤ k-end) × (places ≡ sizesOf archive .places) × (k-end ≡ placeCount (sizesOf archive)) × Listing (sizesOf archive) archive k count list
+    (k ≤ k-end) × (places ≡ sizesOf archive .places) × (k-end ≡ placeCount (sizesOf archive)) × Listing (sizesOf archive) (markAt archive) k count list
 
 abbrev μ-loop : tie.MeasureT-loop
 μ-loop archive list₀ places count₀ k₀ k-end list count k = k-end - k
@@ -65,7 +65,7 @@ add-list c =
 slice-write-list : tie.Need-slice-write-list Inv-loop μ-loop
 slice-write-list c =
     let i = c .before .before .before .loop .inv in
-    omega (arith, few _ _ (i .3), i .3 .size)
+    omega (arith, few _ _ (i .3), listing-size _ _ (omega arith) (i .3))
 
 add-count : tie.Need-add-count Inv-loop μ-loop
 add-count c =
@@ -86,12 +86,12 @@ loop-again c =
     )
 
 same-length : tie.Need-same-length Inv-loop μ-loop
-same-length c = c .before .loop .inv .3 .size ∙ sym (c .before .before .before .before .before .before .before .before .before .before .pre .1)
+same-length c =
+    listing-size _ _ (omega arith) (c .before .loop .inv .3)
+    ∙ sym (c .before .before .before .before .before .before .before .before .before .before .pre .1)
 
 returns : tie.Need-returns Inv-loop μ-loop
-returns c =
-    let R = good-sizes _ (c .before .before .before .before .before .before .before .before .before .before .pre .0) in
-    listing-all _ _ R (omega arith) (c .before .loop .inv .3)
+returns c = listing-all _ _ (omega arith) (c .before .loop .inv .3)
 
 pub list-filled-spec : {M : Type 1} → statement M
 list-filled-spec =
