@@ -26,7 +26,7 @@ unfolding howMany
 howMany-most zero f = omega arith
 howMany-most (suc n) f = omega (arith, howMany-most n f, bit-low (f n))
 
-pub howMany-none : (n : ℕ) (f : ℕ → Bool) → ((i : ℕ) → i < n → f i ≡ false) → howMany n f ≡ 0
+howMany-none : (n : ℕ) (f : ℕ → Bool) → ((i : ℕ) → i < n → f i ≡ false) → howMany n f ≡ 0
 unfolding howMany
 howMany-none zero f h = refl
 howMany-none (suc n) f h = rw (howMany-none n f (λ i l. h i (omega arith)), h n (omega arith))
@@ -41,7 +41,7 @@ howMany-one (suc n) k f h others =
       | no e ↦ rw (howMany-one n k f (omega arith) (λ i l. others i (omega arith)), others n (omega arith) (λ q. e (sym q))) (omega arith)
     ]
 
-pub howMany-split : (a b : ℕ) (f : ℕ → Bool) → howMany (a + b) f ≡ howMany a f + howMany b (λ i. f (a + i))
+howMany-split : (a b : ℕ) (f : ℕ → Bool) → howMany (a + b) f ≡ howMany a f + howMany b (λ i. f (a + i))
 unfolding howMany
 howMany-split a zero f = simp add-zero
 howMany-split a (suc b) f = rw (add-suc, howMany-split a b f) (omega arith)
