@@ -1,7 +1,7 @@
 -- Laws of `packed`, `bitAt`, `fieldAt` and `pack`. Assumes nothing.
 use Prim.Native.Nat.{ℕ, _+_, _-_, _*_, _/_, _%_, _^_, _<_, _≤_}
 use mathlib.Core.Path.{_≡_, refl, sym, ap, _∙_}
-use mathlib.Core.Bool.{Bool, true, false}
+use mathlib.Core.Bool.{Bool, false}
 use mathlib.Core.List.{List, [], _∷_, _++_}
 use mathlib.Core.Logic.{⊎-elim}
 use native.Mathlib.Nat.{zero-div}
@@ -9,9 +9,10 @@ use native.Mathlib.Omega.{arith}
 use lib.Dec.{ltb}
 use lib.ListN.{length, List·getD-eq-default}
 use borrow.Author.Tests.{lt-ltb, le-ltb}
-use Rattle.lists.specs.Lists.{pick, at, bit}
+use Rattle.lists.specs.Lists.{at, bit}
 use Rattle.lists.proofs.TabLaws.{order, length-tab, tab-at, is-tab, tab-same}
 use Rattle.bits.specs.Fields.{BitField, _wide_, bitOf, bitsOf, widths, number, packed, bytesFor, pack, bitAt, fieldAt}
+use Rattle.lists.proofs.AnyLaws.{pick-same}
 use Rattle.lists.proofs.CountLaws.{bit-low}
 use Rattle.bits.proofs.NumberLaws.{bit-odd, place-bit, number-same, number-low, number-none, number-more, number-small, number-back}
 
@@ -119,11 +120,7 @@ bits-past (f ∷ fs) k h = rw (le-ltb k (f .width) (omega arith)) (bits-past fs 
 -- zero bits behind them change nothing
 zero-bits : (w k : ℕ) → bitsOf ((w wide 0) ∷ []) k ≡ false
 unfolding bitsOf bitOf
-zero-bits w k = rw zero-div (go (ltb k w))
-  where
-    go : (t : Bool) → pick t false false ≡ false
-    go true = refl
-    go false = refl
+zero-bits w k = rw zero-div (pick-same (ltb k w) false)
 
 pub bits-zero : (fs : List BitField) (w k : ℕ) → bitsOf fs k ≡ bitsOf (fs ++ ((w wide 0) ∷ [])) k
 bits-zero fs w k =

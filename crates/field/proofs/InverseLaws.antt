@@ -9,6 +9,7 @@ use native.Mathlib.Omega.{arith}
 use lib.Dec.{T, eqb, eqb→eq, lit<}
 use Rattle.lists.specs.Lists.{pick, at}
 use Rattle.lists.proofs.AllLaws.{all, all-at}
+use Rattle.lists.proofs.AnyLaws.{pick-same}
 use Rattle.field.specs.Field.{sum, modulus, xtime, xtimes, times, power, last, inverseOf}
 use Rattle.field.proofs.TimesLaws.{times-assoc, times-comm, times-zero, times-mod-left, one-times-low}
 use Rattle.field.proofs.PowerLaws.{power-lt, power-add}
@@ -48,11 +49,7 @@ last-passes (suc n) p b h t = go (p n) refl (λ m. last-passes n p b m t)
 
 last-lt : (n : ℕ) (p : ℕ → Bool) → last (suc n) p < suc n
 unfolding last
-last-lt zero p = go (p 0)
-  where
-    go : (x : Bool) → pick x 0 0 < 1
-    go true = lit< tt
-    go false = lit< tt
+last-lt zero p = rw (pick-same {A = ℕ} (p 0) 0) (lit< tt)
 last-lt (suc n) p = go (p (suc n)) (last-lt n p)
   where
     go : (x : Bool) → last (suc n) p < suc n → pick x (suc n) (last (suc n) p) < suc (suc n)

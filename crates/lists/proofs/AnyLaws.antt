@@ -1,4 +1,4 @@
--- Laws of `anyOf` and `anyBelow`. Assumes nothing.
+-- Laws of `pick`, `anyOf` and `anyBelow`. Assumes nothing.
 use Prim.Native.Nat.{ℕ, zero, suc, _+_, _<_}
 use mathlib.Core.Path.{_≡_, refl}
 use mathlib.Core.Bool.{Bool, true, false, _&&_, _||_}
@@ -6,6 +6,15 @@ use mathlib.Core.List.{List, [], _∷_, _++_}
 use native.Mathlib.Omega.{arith}
 use native.Mathlib.Decide.{ℕ-discrete}
 use Rattle.lists.specs.Lists.{pick, anyOf, anyBelow}
+
+-- a choice between two that are the same, and the test itself
+pub pick-same : {A : Type 0} (b : Bool) (a : A) → pick b a a ≡ a
+pick-same true a = refl
+pick-same false a = refl
+
+pub pick-test : (b : Bool) → pick b true false ≡ b
+pick-test true = refl
+pick-test false = refl
 
 either-false : (a b : Bool) → pick a true b ≡ false → (a ≡ false) × (b ≡ false)
 either-false true b e = let q : _≡_ {A = ℕ} 0 1 = cc in absurd (omega arith)
@@ -46,8 +55,7 @@ any-skip a ts e = rw e
 
 pub any-last : (a : Bool) → anyOf (a ∷ []) ≡ a
 unfolding anyOf
-any-last true = refl
-any-last false = refl
+any-last a = pick-test a
 
 -- two tests that agree below n
 pub any-same : (n : ℕ) (f g : ℕ → Bool) → ((i : ℕ) → i < n → f i ≡ g i) → anyBelow n f ≡ anyBelow n g
@@ -70,11 +78,7 @@ pub any-some : (n : ℕ) (f : ℕ → Bool) (i : ℕ) → i < n → f i ≡ true
 unfolding anyBelow
 any-some zero f i h e = absurd (omega arith)
 any-some (suc n) f i h e =
-    elim (ℕ-discrete i n) [ yes q ↦ rw (← q, e) | no q ↦ rw (any-some n f i (omega arith) e) (go (f n)) ]
-  where
-    go : (t : Bool) → pick t true true ≡ true
-    go true = refl
-    go false = refl
+    elim (ℕ-discrete i n) [ yes q ↦ rw (← q, e) | no q ↦ rw (any-some n f i (omega arith) e) (pick-same (f n) true) ]
 
 -- one list of tests behind another
 pub any-append : (ts us : List Bool) → anyOf (ts ++ us) ≡ anyOf (anyOf ts ∷ us)

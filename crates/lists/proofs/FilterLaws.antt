@@ -12,6 +12,7 @@ use lib.Seq.{getD-at}
 use borrow.Author.Tests.{eq-eqb, ne-eqb}
 use Rattle.lists.specs.Lists.{pick, at, bit, howMany, filtered}
 use Rattle.lists.proofs.TabLaws.{order}
+use Rattle.lists.proofs.AnyLaws.{pick-same, pick-test}
 use Rattle.lists.proofs.CountLaws.{howMany-more, howMany-same, howMany-one}
 
 -- the steps of a loop: no index yet, one that passes, one that does not
@@ -101,21 +102,13 @@ unfolding filtered howMany
 often zero p f v = refl
 often (suc n) p f v = often-more n p f (p n) v ∙ ap (λ (c : ℕ). c + bit (pick (p n) (eqb (f n) v) false)) (often n p f v)
 
-neither : (b : Bool) → pick b false false ≡ false
-neither true = refl
-neither false = refl
-
-itself : (b : Bool) → pick b true false ≡ b
-itself true = refl
-itself false = refl
-
 -- once, if the index of a value that no other has passes, and else never
 pub filtered-once : (n : ℕ) (p : ℕ → Bool) (f : ℕ → ℕ) (k : ℕ) → k < n → ((i : ℕ) → i < n → i ≢ k → f i ≢ f k)
     → howMany (howMany n p) (λ j. eqb (at (filtered n p f) j) (f k)) ≡ bit (p k)
 filtered-once n p f k h apart =
     often n p f (f k)
-    ∙ howMany-one n k _ h (λ i l q. ap (λ (b : Bool). pick (p i) b false) (ne-eqb (f i) (f k) (apart i l q)) ∙ neither (p i))
-    ∙ ap bit (ap (λ (b : Bool). pick (p k) b false) (eq-eqb (f k) (f k) refl) ∙ itself (p k))
+    ∙ howMany-one n k _ h (λ i l q. ap (λ (b : Bool). pick (p i) b false) (ne-eqb (f i) (f k) (apart i l q)) ∙ pick-same (p i) false)
+    ∙ ap bit (ap (λ (b : Bool). pick (p k) b false) (eq-eqb (f k) (f k) refl) ∙ pick-test (p k))
 
 -- where f rises, so do the entries
 pub filtered-rising : (n : ℕ) (p : ℕ → Bool) (f : ℕ → ℕ) → ((k l : ℕ) → k < l → l < n → f k < f l)

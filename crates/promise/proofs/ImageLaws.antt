@@ -1,7 +1,7 @@
 -- What the image of a table says, and that a store into it is a change of the table. Assumes nothing.
 use Prim.Native.Nat.{ℕ, _+_, _-_, _<_, _≤_}
 use mathlib.Core.Path.{_≡_, refl, sym, ap, _∙_}
-use mathlib.Core.Bool.{Bool, true, false}
+use mathlib.Core.Bool.{Bool, false}
 use mathlib.Core.List.{List}
 use mathlib.Core.Logic.{⊎-elim}
 use native.Mathlib.Nat.{mul-le-mul-right}
@@ -9,8 +9,9 @@ use native.Mathlib.Omega.{arith}
 use lib.Dec.{ltb}
 use lib.ListN.{length}
 use borrow.Author.Tests.{lt-ltb, le-ltb}
-use Rattle.lists.specs.Lists.{pick, at}
+use Rattle.lists.specs.Lists.{at}
 use Rattle.lists.proofs.TabLaws.{order, tab-at}
+use Rattle.lists.proofs.AnyLaws.{pick-same}
 use Rattle.lists.proofs.OverLaws.{over-map, over-same}
 use Rattle.field.specs.Field.{times}
 use Rattle.field.proofs.SumLaws.{sum-same}
@@ -182,12 +183,5 @@ module _ (s : Setting) (vectors : ℕ → ℕ → ℕ) (same : (k e : ℕ) → k
 pub opened-is : (s : Setting) → opened (s .layout) (s .z) (s .id) ≡ image s allEmpty
 unfolding opened image numbered
 opened-is s =
-    archive-same (s .layout) (s .z) (s .id) _ _ _ _ (λ k h. none (ltb k (placeCount (s .z)))) (λ k p h hp. zeros (ltb k (placeCount (s .z))) p)
-  where
-    none : (x : Bool) → false ≡ isFilled (pick x empty empty)
-    none true = refl
-    none false = refl
-
-    zeros : (x : Bool) (p : ℕ) → 0 ≡ placeRecord s (pick x empty empty) p
-    zeros true p = refl
-    zeros false p = refl
+    let none : (k : ℕ) → numbered (s .z) allEmpty k ≡ empty = λ k. pick-same (ltb k (placeCount (s .z))) empty in
+    archive-same (s .layout) (s .z) (s .id) _ _ _ _ (λ k h. ap isFilled (sym (none k))) (λ k p h hp. ap (λ (x : Place). placeRecord s x p) (sym (none k)))
