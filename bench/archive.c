@@ -1,7 +1,7 @@
-/* Encode, Repair, Prove, Verdict and Read beside plain C at the largest sizes, with one tag, on a gauge's data, and Plan and a Read of rows
-   alone: nanoseconds a call, and whether every byte agrees. Blocks that are half zero combine to bytes that hardly ever are, and a mask hides
-   what it masks; so the records that Repair, Prove and Read take, and the response that Verdict judges, are given the gauge's data
-   outright. Encode is timed by rows with such zeros too: they are the coefficients of its combination. */
+/* Encode, Repair, Prove, Verdict and Read beside plain C at the largest sizes, with one tag, on a gauge's data, and Plan, Losses and a Read
+   of rows alone: nanoseconds a call, and whether every byte agrees. Blocks that are half zero combine to bytes that hardly ever are, and a
+   mask hides what it masks; so the records that Repair, Prove and Read take, and the response that Verdict judges, are given the gauge's
+   data outright. Encode is timed by rows with such zeros too: they are the coefficients of its combination. */
 #include <string.h>
 
 #include "../include/span_archive.h"
@@ -106,6 +106,19 @@ void read_rows(const uint8_t *key) {
     for (int i = 0; i < TRIES; i++) TIMED(ns[0], refused |= span_read(table, ROWS_ARCHIVE, x, M, &consulted));
     for (int i = 0; i < TRIES; i++) TIMED(ns[1], count = c_read(table, ROWS_N, y));
     report("read-rows", DATALESS, ns, 1, !refused && count == consulted && memcmp(x, y, M) == 0);
+}
+
+/* Losses of every size, with all places filled by the table's rows, zero from element `width` on. With M elements any two nodes are enough for
+   the file; with fewer every set hurts, and no row is spared. */
+void losses(const char *what, size_t width) {
+    uint8_t x[NODES + 1][SETS], y[NODES + 1][SETS], refused = span_open(1, N, M, PLACES, NODES, 1, id, 8, ours, ARCHIVE(1)), count;
+    double ns[2] = UNTIMED;
+    memset(ours + 12, 0xff, NODES * PLACES / 8);
+    for (size_t k = 0; k < NODES * PLACES; k++) memcpy(ours + 18 + k * RECORD(1) + N, inputs.table + k * M, width);
+    for (int i = 0; i < TRIES; i++)
+        TIMED(ns[0], for (size_t k = 0; k <= NODES; k++) refused |= span_losses(ours, ARCHIVE(1), k, x[k], SETS, &count));
+    for (int i = 0; i < TRIES; i++) TIMED(ns[1], for (size_t k = 0; k <= NODES; k++) c_losses(ours, k, y[k]));
+    report(what, DATALESS, ns, 1, !refused && memcmp(x, y, sizeof x) == 0);
 }
 
 /* One round; the auxiliary elements of the inputs are there. */

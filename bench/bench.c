@@ -20,6 +20,7 @@ enum { ROUNDS = 16, VECTOR = 4096, REPEATS = 256, BYTES = 1 << 20 };
 void archive(const uint8_t *key, enum gauge gauge);
 void plan(const uint8_t *key);
 void read_rows(const uint8_t *key);
+void losses(const char *what, size_t width);
 
 static void draw(const uint8_t *key) {
     static const uint8_t nonce[12] = {0, 0, 0, 9, 0, 0, 0, 0x4a};
@@ -74,6 +75,8 @@ int main(void) {
         setup("setup", key, 1);
         plan(key);
         read_rows(key);
+        losses("losses", M);
+        losses("losses-all-hurt", M - 1);
         for (enum gauge gauge = AT_REST; gauge < GAUGES; gauge++) {
             product(gauge);
             unmask(key, gauge);

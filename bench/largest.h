@@ -6,7 +6,7 @@
 #include <stdint.h>
 
 enum { N = 1024, M = 16, PLACES = 8, NODES = 6, TAGS = 10, BLOCK = N + M };
-enum { FILE_LENGTH = M * (N - 2), HELPERS = 5, Q = 8, COEFFICIENTS = HELPERS * Q * PLACES, MESSAGE = 13 };
+enum { FILE_LENGTH = M * (N - 2), HELPERS = 5, Q = 8, COEFFICIENTS = HELPERS * Q * PLACES, MESSAGE = 13, SETS = 20 };
 
 /* Lengths by the number of tags. */
 #define RECORD(tags) (BLOCK + (tags))

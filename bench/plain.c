@@ -283,6 +283,27 @@ TIMED_ALONE size_t c_read(const uint8_t *archive, size_t n, uint8_t *out) {
     return consulted;
 }
 
+/* Whether the file cannot be read without the nodes of a set. */
+static inline int hurts(const uint8_t *archive, unsigned set) {
+    struct basis b = {.count = 0};
+    size_t len = RECORD(tags_in(archive));
+    for (size_t k = 0; k < NODES * PLACES && b.count < M; k++)
+        if (marked(archive, k) && !(set >> k / PLACES & 1)) take(&b, archive + 18 + k * len + N);
+    return b.count < M;
+}
+
+/* Behind `count` sets, those that hurt among the ones with these nodes and k more from `from` on. */
+static size_t losses_from(const uint8_t *archive, size_t from, size_t k, unsigned set, uint8_t *sets, size_t count) {
+    if (!k && hurts(archive, set)) sets[count++] = (uint8_t)set;
+    for (size_t node = from; k && node + k <= NODES; node++) count = losses_from(archive, node + 1, k - 1, set | 1u << node, sets, count);
+    return count;
+}
+
+TIMED_ALONE size_t c_losses(const uint8_t *archive, size_t k, uint8_t *sets) {
+    memset(sets, 0, SETS);
+    return losses_from(archive, 0, k, 0, sets, 0);
+}
+
 /* The row of repair block t, of q a helper. */
 static inline void repair_row(const uint8_t *archive, const uint8_t *helpers, size_t q, size_t t, uint8_t *row) {
     const uint8_t *rows = archive + 18 + N;

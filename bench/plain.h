@@ -31,6 +31,9 @@ void c_unmask(const uint8_t *id, const uint8_t *mask_key, const uint8_t *respons
 size_t c_inventory(const uint8_t *archive, uint8_t *list);
 size_t c_read(const uint8_t *archive, size_t n, uint8_t *out);
 
+/* The sets of k nodes whose loss would leave the file unreadable, by node numbers, then zeros; their number. */
+size_t c_losses(const uint8_t *archive, size_t k, uint8_t *sets);
+
 /* Thetas for the wanted rows, from q repair blocks of each of `count` helpers: 0, or 12 where there are none, and nothing is written. */
 uint8_t c_plan(const uint8_t *archive, const uint8_t *helpers, size_t count, size_t q, const uint8_t *wanted, uint8_t *thetas);
 

@@ -8,7 +8,7 @@
    Threads: the library has no writable data of its own, so calls on different buffers may run at once. Alignment: none is asked for. Stack: below
    17 KiB at the largest sizes (measured by tests/run, not proved). Mapped memory: an archive may be a mapped file; a fault in it is the caller's.
    Timing: a product takes no branch on its operands, so zero bytes cost what others do (measured by bench/run, not proved). It looks tables up by
-   their values; Inverse tests for 00, Read and Plan go by rows and marks, Verdict stops at the first tag that fails: nothing is constant-time.
+   their values; Inverse tests for 00, Read, Plan and Losses go by rows and marks, Verdict stops at the first tag that fails: nothing is constant-time.
 
    The bytes of an archive: 4 of packed sizes (the layout in 4 bits, n in 11, m in 5, places in 4, nodes in 3; then under layout 2 the tags in 4
    and a zero bit, under layout 1, which has one tag, five zero bits), the id from byte 4, 48 fill marks from byte 12 (that of node b, place p is
@@ -22,7 +22,7 @@
 /* Answers. 10 is none of them. */
 #define SPAN_DONE 0
 #define SPAN_WRONG_SIZE 1      /* a size outside its range: layout 1 or 2, n 3 to 1,024, m 1 to 16, places 1 to 8, nodes 1 to 6, tags 1 to 10
-                                  (1 under layout 1), s 0 to 9 */
+                                  (1 under layout 1), s 0 to 9, k 0 to the number of nodes */
 #define SPAN_WRONG_LENGTH 2    /* a buffer that has not exactly its length */
 #define SPAN_BAD_ARCHIVE 3
 #define SPAN_NO_SUCH_PLACE 4   /* nor node */
@@ -52,6 +52,7 @@
 #define SPAN_CHALLENGE_BYTES(count) ((11 * ((count) + 1) + 7) / 8)
 #define SPAN_ROWS_BYTES(places, m) ((places) * (m))
 #define SPAN_RESPONSE_BYTES(n, tags) ((n) + 12 + 2 * (tags))
+#define SPAN_LOSSES_BYTES 20
 
 #ifdef __cplusplus
 extern "C" {
@@ -131,6 +132,12 @@ uint8_t span_inventory(const uint8_t *archive, size_t archive_len, uint8_t *list
 /* The file of m(n-2) bytes, solved from the first filled places, by node, then place, whose rows determine it; how many filled places were
    consulted into *consulted. Tags are not examined: of damaged records it gives some file, without a refusal. Refuses 3, 2, 8. */
 uint8_t span_read(const uint8_t *archive, size_t archive_len, uint8_t *file, size_t file_len, uint8_t *consulted);
+
+/* Every set of just k nodes (0 to `nodes`) whose loss would leave the file unreadable: were span_lose called for each of them, span_read would
+   be refused with 8. A set is a byte in which bit b, of value 2^b, stands for node b; an empty node counts as a node. Sets come in the order of
+   their node numbers, not of the bytes: that of 0 and 3, 09, before that of 1 and 2, 06. Zeros up to 20 bytes; the number of sets into
+   *count, which alone tells the empty set, 00 for k = 0, from none. The archive is only read. Refuses 3, 1 (k above the nodes), 2. */
+uint8_t span_losses(const uint8_t *archive, size_t archive_len, size_t k, uint8_t *sets, size_t sets_len, uint8_t *count);
 
 #ifdef __cplusplus
 }

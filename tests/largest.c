@@ -189,6 +189,18 @@ static void list_and_read(void) {
     give_back("read's file", file, FILE_LENGTH);
 }
 
+/* The sets of every size whose loss would leave the file unreadable. */
+static void list_losses(void) {
+    uint8_t plain[SETS];
+    for (size_t k = 0; k <= NODES; k++) {
+        uint8_t *sets = lend(NULL, SETS), count = 0;
+        answer("losses", 0, span_losses(ours, ARCHIVE(tags), k, sets, SETS, &count));
+        expect("the sets", count == c_losses(theirs, k, plain) && !memcmp(sets, plain, SETS));
+        give_back("losses' sets", sets, SETS);
+    }
+    same_archive("the archive after losses");
+}
+
 /* Node by node is lost at its end: at last the file comes from node 4 and the rebuilt node 5, and then no more. */
 static void live(size_t layout, size_t with) {
     tags = with;
@@ -201,11 +213,13 @@ static void live(size_t layout, size_t with) {
     audit(5);
     for (size_t node = 0; node < NODES; node++) {
         list_and_read();
+        list_losses();
         answer("lose", 0, span_lose(ours, ARCHIVE(tags), node));
         c_lose(theirs, node);
         same_archive("the archive after lose");
     }
     list_and_read();
+    list_losses();
     give_back("the archive", ours, ARCHIVE(tags));
 }
 

@@ -47,6 +47,7 @@ static uint8_t verdict(void) {
 static uint8_t unmask(void) { return span_unmask(N, TAGS, id, 8, mask_key, 32, response, RESPONSE(TAGS), out, N - 2); }
 static uint8_t inventory(void) { return span_inventory(archive, ARCHIVE(TAGS), out, NODES * PLACES, &count); }
 static uint8_t read_(void) { return span_read(archive, ARCHIVE(TAGS), out, FILE_LENGTH, &count); }
+static uint8_t losses(void) { return span_losses(archive, ARCHIVE(TAGS), NODES / 2, out, SETS, &count); }
 static uint8_t lose(void) { return span_lose(archive, ARCHIVE(TAGS), 0); }
 
 static const struct {
@@ -55,7 +56,8 @@ static const struct {
 } operations[] = {{"multiply", multiply}, {"inverse", inverse},     {"block", block},   {"vector", vector},
                   {"open", open_},        {"setup", setup},         {"encode", encode}, {"plan", plan},
                   {"repair", repair},     {"challenge", challenge}, {"prove", prove},   {"verdict", verdict},
-                  {"unmask", unmask},     {"inventory", inventory}, {"read", read_},    {"lose", lose}};
+                  {"unmask", unmask},     {"inventory", inventory}, {"read", read_},    {"losses", losses},
+                  {"lose", lose}};
 
 /* Aligned, so that no depth hangs on where the linker puts it. */
 static _Alignas(64) uint8_t stack[1 << 18];

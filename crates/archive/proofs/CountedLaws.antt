@@ -1,4 +1,4 @@
--- What Inventory and Read count fits a byte. Assumes nothing.
+-- What Inventory, Read and Losses count fits a byte. Assumes nothing.
 use Prim.Native.Nat.{ℕ, _<_}
 use mathlib.Core.Path.{_≡_, refl}
 use mathlib.Core.Bool.{Bool, false}
@@ -15,6 +15,7 @@ use Rattle.archive.specs.Layout.{sizesOf, markAt, badArchive}
 use Rattle.lists.specs.Lists.{howMany}
 use Rattle.archive.specs.Read.{ReadAllows}
 use Rattle.archive.specs.Inventory.{inventoryBefore, inventoryAnswer}
+use Rattle.archive.specs.Losses.{LossesAllows}
 use Rattle.archive.proofs.GoodArchiveLaws.{good-sizes}
 use Rattle.sizes.proofs.PlaceLaws.{count-low}
 use Rattle.lists.proofs.CountLaws.{howMany-most}
@@ -33,3 +34,7 @@ inventory-low s out e = rw e (go (inventoryBefore (sizesOf s) s out) refl)
 pub read-low : (s out : List ℕ) (a : Counted) (written : List ℕ) → ReadAllows s out a written → countedValue a 0 < 256
 read-low s out (Count k) written w = omega (arith, w .3 .most, few s (markAt s) (accepted _ _ _ (w .0) .0))
 read-low s out (Refused r) written w = omega arith
+
+pub losses-low : (s : List ℕ) (k : ℕ) (sets : List ℕ) (a : Counted) (written : List ℕ) → LossesAllows s k sets a written → countedValue a 0 < 256
+losses-low s k sets (Count count) written w = omega (arith, w .1 .fits)
+losses-low s k sets (Refused r) written w = omega arith

@@ -8,8 +8,10 @@ pub mod StoreLaws
 pub mod CallLaws
 pub mod RepairedLaws
 pub mod LoseLaws
+pub mod LostLaws
 pub mod BlockLaws
 pub mod ReadLaws
+pub mod SetLaws
 pub mod PlanLaws
 pub mod ShelfLaws
 pub mod ListingLaws

@@ -14,10 +14,10 @@ use Rattle.answer.proofs.RefusalLaws.{accepted}
 use Rattle.sizes.specs.declared.Sizes.{Sizes}
 use Rattle.sizes.specs.Sizes.{sizesOutside}
 use Rattle.sizes.proofs.SizeLaws.{Ranged, not-sizes-outside}
-use Rattle.sizes.specs.Lengths.{placeCount, recordLength, recordStart}
+use Rattle.sizes.specs.Lengths.{recordLength, recordStart}
 use Rattle.archive.specs.Layout.{sizesOf, idOf, markAt, badArchive, withMarks, stored}
 use Rattle.archive.specs.Calls.{lose, answerFor, archiveAnswer, effectFor}
-use Rattle.sizes.proofs.PlaceLaws.{count-low}
+use Rattle.sizes.proofs.PlaceLaws.{count-low, node-fits}
 use Rattle.archive.proofs.GoodArchiveLaws.{good-sizes, good-length}
 
 -- no marks, then zero records
@@ -43,17 +43,14 @@ module _ (s : List ℕ) (node : ℕ) {z : Sizes} (done : Passed (archiveAnswer s
   lose-sized = not-sizes-outside z lose-ranged
 
   -- the node's places are among those of the archive, and so are their records
-  places-fit : node * z .places + z .places ≤ placeCount z
-  places-fit = omega (arith, mul-le-mul-right (z .places) there)
-
   pub places-low : node * z .places + z .places ≤ 48
-  places-low = omega (arith, places-fit, count-low z lose-ranged)
+  places-low = omega (arith, node-fits z node there, count-low z lose-ranged)
 
   pub records-fit : (mark : ℕ → Bool) {t : List ℕ} {start len : ℕ} → t ≡ withMarks mark s → start ≡ recordStart z (node * z .places) → len ≡ recordLength z
       → start + z .places * len ≤ length t
   unfolding withMarks
   records-fit mark p q l =
-      rw (p, q, l, length-put, good-length s good, ← sizes) (omega (arith, mul-le-mul-right (recordLength z) places-fit))
+      rw (p, q, l, length-put, good-length s good, ← sizes) (omega (arith, mul-le-mul-right (recordLength z) (node-fits z node there)))
 
   pub long-enough : 18 ≤ length s
   long-enough = omega (arith, good-length s good)

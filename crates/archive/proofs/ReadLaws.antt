@@ -21,10 +21,10 @@ use Rattle.sizes.specs.Lengths.{placeCount, fileLength}
 use Rattle.archive.specs.Layout.{markAt, byteIn}
 use Rattle.archive.specs.Read.{rowIn, Blind, Solved}
 
--- ---- the same for two that agree on the places there are
+-- ---- the same for two that agree on the places there are, and on the rows of those that are named
 
 pub blind-same : (z : Sizes) (f g : ℕ → Bool) (r r′ : ℕ → ℕ → ℕ) → ((k : ℕ) → k < placeCount z → f k ≡ g k)
-    → ((k i : ℕ) → k < placeCount z → i < z .m → r k i ≡ r′ k i) → Blind z f r → Blind z g r′
+    → ((k i : ℕ) → k < placeCount z → g k ≡ true → i < z .m → r k i ≡ r′ k i) → Blind z f r → Blind z g r′
 blind-same z f g r r′ marks rows w =
     record {
       v = w .v;
@@ -33,7 +33,7 @@ blind-same z f g r r′ marks rows w =
       one-there = w .one-there;
       one-not = w .one-not;
       orthogonal = λ k h e.
-          sym (product-same (z .m) (r k) (r′ k) (w .v) (λ i l. rows k i h l)) ∙ w .orthogonal k h (marks k h ∙ e);
+          sym (product-same (z .m) (r k) (r′ k) (w .v) (λ i l. rows k i h e l)) ∙ w .orthogonal k h (marks k h ∙ e);
     }
 
 -- ---- the solution

@@ -97,4 +97,4 @@ module _ (z : Sizes) (R : Ranged z) where
 
     pub shelf-rising : Rising count (shelf z filled)
     shelf-rising i j h l =
-        rw (entry i (omega arith), entry j l) (filtered-rising (placeCount z) filled (placeCode z) (λ k m less low. code-rises k m less) i j h l)
+        rw (entry i (omega arith), entry j l) (filtered-rising _<_ (placeCount z) filled (placeCode z) (λ k m less low a b. code-rises k m less) i j h l)

@@ -10,3 +10,4 @@ pub mod Read
 pub mod Inventory
 pub mod Repaired
 pub mod Plan
+pub mod Losses

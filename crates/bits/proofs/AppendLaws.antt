@@ -1,4 +1,4 @@
--- Bits and fields of two lists of bytes in a row, and bytes to which field after field is written. Assumes nothing.
+-- Bits and fields of two lists of bytes, alike or in a row, and bytes to which field after field is written. Assumes nothing.
 use Prim.Native.Nat.{ℕ, _+_, _-_, _*_, _/_, _%_, _≤_, _<_}
 use mathlib.Core.Path.{_≡_, refl, sym, ap, _∙_}
 use mathlib.Core.List.{List, [], _∷_, _++_}
@@ -6,21 +6,28 @@ use mathlib.Core.Logic.{⊎-elim}
 use native.Mathlib.Omega.{arith}
 use lib.ListN.{length, List·getD-append}
 use lib.Seq.{getD-append-add}
-use Rattle.lists.specs.Lists.{tab, over}
+use Rattle.lists.specs.Lists.{at, tab, over}
 use Rattle.lists.proofs.TabLaws.{order}
 use Rattle.lists.proofs.OverLaws.{over-within, over-below, over-above, over-same}
 use Rattle.bits.specs.Fields.{BitField, bitOf, bitsOf, widths, number, packed, bytesFor, pack, bitAt, fieldAt, withField}
 use Rattle.bits.proofs.NumberLaws.{number-same}
 use Rattle.bits.proofs.PackLaws.{packed-length, packed-bit, packed-same, bits-here, bits-front, bits-rest, bits-past}
 
+-- a bit and a field in the first n bytes of two lists that agree there
+bit-same : (a b : List ℕ) (n k : ℕ) → ((i : ℕ) → i < n → at a i ≡ at b i) → k < 8 * n → bitAt a k ≡ bitAt b k
+unfolding bitAt
+bit-same a b n k e h = rw (e (k / 8) (omega arith))
+
+pub field-same : (a b : List ℕ) (n from w : ℕ) → ((i : ℕ) → i < n → at a i ≡ at b i) → from + w ≤ 8 * n → fieldAt a from w ≡ fieldAt b from w
+unfolding fieldAt
+field-same a b n from w e h = number-same _ _ w (λ i l. bit-same a b n (from + i) e (omega arith))
+
 -- a bit of the first list, and a field of it
 pub bit-front : (a b : List ℕ) (k : ℕ) → k < 8 * length a → bitAt (a ++ b) k ≡ bitAt a k
-unfolding bitAt
-bit-front a b k h = rw (List·getD-append a b 0 (k / 8) (omega arith))
+bit-front a b k h = bit-same (a ++ b) a (length a) k (List·getD-append a b 0) h
 
 pub field-front : (a b : List ℕ) (from w : ℕ) → from + w ≤ 8 * length a → fieldAt (a ++ b) from w ≡ fieldAt a from w
-unfolding fieldAt
-field-front a b from w h = number-same _ _ w (λ i l. bit-front a b (from + i) (omega arith))
+field-front a b from w h = field-same (a ++ b) a (length a) from w (List·getD-append a b 0) h
 
 -- a bit of the second
 pub bit-behind : (a b : List ℕ) (n k : ℕ) → length a ≡ n → bitAt (a ++ b) (8 * n + k) ≡ bitAt b k

@@ -34,7 +34,7 @@ use Rattle.archive.specs.Blocks.{source, coded, codedRecord}
 use Rattle.archive.specs.Calls.{encode, answerFor, archiveAnswer, effectFor}
 use Rattle.sizes.proofs.PlaceLaws.{number-low, count-low, record-fits}
 use Rattle.archive.proofs.GoodArchiveLaws.{good-sizes, good-length, good-id}
-use Rattle.archive.proofs.RepairedLaws.{length-marks}
+use Rattle.archive.proofs.StoreLaws.{length-marks}
 use Rattle.archive.proofs.BlockLaws.{source-file, coded-row}
 
 -- ---- the answer

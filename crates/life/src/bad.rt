@@ -53,6 +53,13 @@ fn inventory(s: Bytes, len: usize) -> u8 {
     answer::counted_number(found)
 }
 
+fn losses(s: Bytes, len: usize) -> u8 {
+    let mut lent = [0xa5u8; 64];
+    let found = losses::losses(&s[0..len % 81], 1, &mut lent[0..20]);
+    cases::kept(lent);
+    answer::counted_number(found)
+}
+
 fn prove(s: Bytes, len: usize) -> u8 {
     let mut lent = [0xa5u8; 64];
     let answer = proving::prove(
@@ -74,17 +81,18 @@ fn read(s: Bytes, len: usize) -> u8 {
     answer::counted_number(done)
 }
 
-// Encode, Lose, Repair, Inventory, Prove, Read on the first `len` bytes, below 81.
+// Encode, Lose, Repair, Inventory, Losses, Prove, Read on the first `len` bytes, below 81.
 fn all_refuse(label: &[u8], s: Bytes, len: usize) {
     let got = [
         encode(s, len),
         lose(s, len),
         repair(s, len),
         inventory(s, len),
+        losses(s, len),
         prove(s, len),
         read(s, len),
     ];
-    cases::bytes(label, &[3u8; 6], &got);
+    cases::bytes(label, &[3u8; 7], &got);
 }
 
 // The archive of the first life with byte `at` made b.

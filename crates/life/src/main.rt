@@ -4,6 +4,7 @@ mod archives;
 mod bad;
 mod coding_refused;
 mod living;
+mod losing;
 mod opening;
 mod plans;
 mod proving_refused;
@@ -17,4 +18,5 @@ fn main() {
     proving_refused::run();
     reading_refused::run();
     plans::run();
+    losing::run();
 }

@@ -30,7 +30,7 @@ by-unit n q v l h =
     ∙ ap (times (v q)) (sel-self q 1 0) ∙ times-one h
 
 -- a row that is the unit row i
-unit-row : (n i : ℕ) (v x : Vec) → ((j : ℕ) → j < n → v j ≡ unitAt j i) → i < n → x i < 256 → product n v x ≡ x i
+pub unit-row : (n i : ℕ) (v x : Vec) → ((j : ℕ) → j < n → v j ≡ unitAt j i) → i < n → x i < 256 → product n v x ≡ x i
 unfolding product
 unit-row n i v x h l b =
     sum-one n i (λ j. times (v j) (x j)) l

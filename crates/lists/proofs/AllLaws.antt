@@ -1,7 +1,7 @@
 -- A test at each number below n, which antt computes, and the law that turns it into the rule at each number.
 -- Assumes nothing.
 use Prim.Native.Nat.{ℕ, zero, suc, _<_}
-use mathlib.Core.Path.{_≡_}
+use mathlib.Core.Path.{_≡_, refl}
 use mathlib.Core.Bool.{Bool, true, false}
 use mathlib.Core.Logic.{⊎-elim}
 use native.Mathlib.Nat.{eq-or-lt-of-le, le-of-suc-le-suc, not-suc-le-zero}
@@ -11,6 +11,10 @@ use Rattle.lists.specs.Lists.{pick}
 unfoldable pub all : ℕ → (ℕ → Bool) → Bool
 all zero p = true
 all (suc n) p = pick (p n) (all n p) false
+
+pub told : (b : Bool) → T b → b ≡ true
+told true t = refl
+told false t = absurd t
 
 pub both : (a b : Bool) → T (pick a b false) → T a × T b
 both true b t = (tt, t)

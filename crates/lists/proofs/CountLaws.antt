@@ -65,3 +65,13 @@ howMany-less j k p h e = omega (arith, howMany-mono (j + 1) k p (omega arith), h
 -- no index from k on passes
 pub howMany-stop : (k l : ℕ) (p : ℕ → Bool) → k ≤ l → ((j : ℕ) → k ≤ j → p j ≡ false) → howMany l p ≡ howMany k p
 howMany-stop k l p h later = omega (arith, howMany-from k l p h, howMany-none (l - k) (λ i. p (k + i)) (λ i b. later (k + i) (omega arith)))
+
+-- where one passes the other does
+pub howMany-within : (n : ℕ) (p q : ℕ → Bool) → ((j : ℕ) → j < n → p j ≡ true → q j ≡ true) → howMany n p ≤ howMany n q
+unfolding howMany
+howMany-within zero p q h = omega arith
+howMany-within (suc n) p q h = go (p n) refl (howMany-within n p q (λ j l. h j (omega arith)))
+  where
+    go : (b : Bool) → p n ≡ b → howMany n p ≤ howMany n q → howMany n p + bit b ≤ howMany n q + bit (q n)
+    go true e before = rw (h n (omega arith) e) (omega arith)
+    go false e before = omega arith

@@ -4,6 +4,7 @@ use mathlib.Core.Path.{_≡_, refl, ap, ap₂, _∙_}
 use mathlib.Core.Bool.{Bool, true, false}
 use mathlib.Core.List.{List, [], _∷_, _++_, append-nil}
 use mathlib.Core.Logic.{⊎-elim, _≢_}
+use native.Mathlib.Decide.{ℕ-discrete}
 use native.Mathlib.Numerals.{add-one}
 use native.Mathlib.Omega.{arith}
 use lib.Dec.{eqb}
@@ -13,7 +14,7 @@ use borrow.Author.Tests.{eq-eqb, ne-eqb}
 use Rattle.lists.specs.Lists.{pick, at, bit, howMany, filtered}
 use Rattle.lists.proofs.TabLaws.{order}
 use Rattle.lists.proofs.AnyLaws.{pick-same, pick-test}
-use Rattle.lists.proofs.CountLaws.{howMany-more, howMany-same, howMany-one}
+use Rattle.lists.proofs.CountLaws.{howMany-more, howMany-same, howMany-one, howMany-less}
 
 -- the steps of a loop: no index yet, one that passes, one that does not
 pub filtered-none : (p : ℕ → Bool) (f : ℕ → ℕ) → filtered 0 p f ≡ []
@@ -72,13 +73,14 @@ module _ (n : ℕ) (p : ℕ → Bool) (f : ℕ → ℕ) where
       let e : howMany n p + 0 ≡ howMany n p = omega arith in
       ap (λ (c : ℕ). howMany c (λ j. eqb (at (after false) j) v)) e ∙ often-before false v ∙ omega arith
 
-  rising-more : (b : Bool) → ((i j : ℕ) → i < j → j < howMany n p → at before i < at before j) → ((j : ℕ) → j < howMany n p → at before j < f n)
-      → (i j : ℕ) → i < j → j < howMany n p + bit b → at (after b) i < at (after b) j
-  rising-more true old below i j h l =
+  rising-more : (R : ℕ → ℕ → Type 0) (b : Bool) → ((i j : ℕ) → i < j → j < howMany n p → R (at before i) (at before j))
+      → (b ≡ true → (j : ℕ) → j < howMany n p → R (at before j) (f n))
+      → (i j : ℕ) → i < j → j < howMany n p + bit b → R (at (after b) i) (at (after b) j)
+  rising-more R true old below i j h l =
       ⊎-elim (λ q. rw (stays true i (omega arith), stays true j q) (old i j h q))
-      (λ q. let e : j ≡ howMany n p = omega arith in rw (e, comes, stays true i (omega arith)) (below i (omega arith)))
+      (λ q. let e : j ≡ howMany n p = omega arith in rw (e, comes, stays true i (omega arith)) (below refl i (omega arith)))
       (order j (howMany n p))
-  rising-more false old below i j h l = rw (stays false i (omega arith), stays false j (omega arith)) (old i j h (omega arith))
+  rising-more R false old below i j h l = rw (stays false i (omega arith), stays false j (omega arith)) (old i j h (omega arith))
 
 -- ---- all indices
 
@@ -110,12 +112,23 @@ filtered-once n p f k h apart =
     ∙ howMany-one n k _ h (λ i l q. ap (λ (b : Bool). pick (p i) b false) (ne-eqb (f i) (f k) (apart i l q)) ∙ pick-same (p i) false)
     ∙ ap bit (ap (λ (b : Bool). pick (p k) b false) (eq-eqb (f k) (f k) refl) ∙ pick-test (p k))
 
--- where f rises, so do the entries
-pub filtered-rising : (n : ℕ) (p : ℕ → Bool) (f : ℕ → ℕ) → ((k l : ℕ) → k < l → l < n → f k < f l)
-    → (i j : ℕ) → i < j → j < howMany n p → at (filtered n p f) i < at (filtered n p f) j
+-- the entry of an index that passes
+pub filtered-at : (n : ℕ) (p : ℕ → Bool) (f : ℕ → ℕ) (k : ℕ) → k < n → p k ≡ true → at (filtered n p f) (howMany k p) ≡ f k
+unfolding filtered
+filtered-at zero p f k h e = absurd (omega arith)
+filtered-at (suc n) p f k h e =
+    elim (ℕ-discrete k n) [
+      | yes q ↦ rw (q, rw q at e) (comes n p f)
+      | no q ↦ stays n p f (p n) (howMany k p) (howMany-less k n p (omega arith) e) ∙ filtered-at n p f k (omega arith) e
+    ]
+
+-- where f rises at the indices that pass, so do the entries, by any order
+pub filtered-rising : (R : ℕ → ℕ → Type 0) (n : ℕ) (p : ℕ → Bool) (f : ℕ → ℕ)
+    → ((k l : ℕ) → k < l → l < n → p k ≡ true → p l ≡ true → R (f k) (f l))
+    → (i j : ℕ) → i < j → j < howMany n p → R (at (filtered n p f) i) (at (filtered n p f) j)
 unfolding filtered howMany
-filtered-rising zero p f rises i j h l = absurd (omega arith)
-filtered-rising (suc n) p f rises i j h l =
-    rising-more n p f (p n) (filtered-rising n p f (λ k l h low. rises k l h (omega arith)))
-    (filtered-all (λ x. x < f n) n p f (λ k low passed. rises k n low (omega arith)))
+filtered-rising R zero p f rises i j h l = absurd (omega arith)
+filtered-rising R (suc n) p f rises i j h l =
+    rising-more n p f R (p n) (filtered-rising R n p f (λ k l h low. rises k l h (omega arith)))
+    (λ last. filtered-all (λ x. R x (f n)) n p f (λ k low passed. rises k n low (omega arith) passed last))
     i j h l

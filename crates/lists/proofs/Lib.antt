@@ -2,8 +2,12 @@ pub mod TabLaws
 pub mod PadLaws
 pub mod CountLaws
 pub mod FilterLaws
+pub mod HoldLaws
+pub mod ListingLaws
 pub mod PutLaws
 pub mod PartLaws
 pub mod OverLaws
 pub mod AnyLaws
 pub mod AllLaws
+pub mod ReplaceLaws
+pub mod SortedLaws

@@ -1,11 +1,13 @@
 -- Laws of `over`. Assumes nothing.
-use Prim.Native.Nat.{ℕ, _+_, _-_, _<_, _≤_}
+use Prim.Native.Nat.{ℕ, suc, _+_, _-_, _*_, _/_, _%_, _<_, _≤_}
 use mathlib.Core.Path.{_≡_, refl, sym, ap, _∙_}
 use mathlib.Core.Bool.{Bool, true, false}
 use mathlib.Core.Logic.{⊎-elim}
+use native.Mathlib.Decide.{ℕ-discrete}
+use native.Mathlib.Nat.{mul-le-mul-right, div-add-mod', mod-lt}
 use native.Mathlib.Omega.{arith}
-use lib.Dec.{ltb}
-use borrow.Author.Tests.{lt-ltb, le-ltb}
+use lib.Dec.{eqb, ltb}
+use borrow.Author.Tests.{lt-ltb, le-ltb, eq-eqb, ne-eqb}
 use Rattle.lists.specs.Lists.{pick, over}
 use Rattle.lists.proofs.TabLaws.{order}
 
@@ -52,3 +54,21 @@ over-same from n f f′ g g′ i hf hg =
     (λ (l : from + n ≤ i). over-above from n f g i l ∙ hg ∙ sym (over-above from n f′ g′ i l))
     (order i (from + n)))
     (order i from)
+
+-- one value for the n indices of row b
+pub over-row : {A : Type 0} (n b : ℕ) (v : A) (g : ℕ → A) (i : ℕ) → 0 < n → over (b * n) n (λ j. v) g i ≡ pick (eqb (i / n) b) v (g i)
+over-row n b v g i low =
+    let parts : i / n * n + i % n ≡ i = div-add-mod' i n in
+    let rest : i % n < n = mod-lt i low in
+    ⊎-elim
+    (λ (l : i / n < b). over-below (b * n) n (λ j. v) g i (omega (arith, mul-le-mul-right n l)) ∙ rw (ne-eqb (i / n) b (λ e. omega arith)))
+    (λ (m : b ≤ i / n).
+    elim (ℕ-discrete (i / n) b) [
+      | yes e ↦
+          let here : b * n + i % n ≡ i = rw e at parts in
+          over-within (b * n) n (λ j. v) g i (omega arith) (omega arith) ∙ rw (eq-eqb (i / n) b e)
+      | no q ↦
+          let past : suc b ≤ i / n = omega arith in
+          over-above (b * n) n (λ j. v) g i (omega (arith, mul-le-mul-right n past)) ∙ rw (ne-eqb (i / n) b q)
+    ])
+    (order (i / n) b)

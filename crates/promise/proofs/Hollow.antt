@@ -40,7 +40,8 @@ use Rattle.promise.specs.Worked as W
 use Rattle.promise.specs.Hollow.{fresh, firstCall, altered, threeAgree, ofZeros, zeroSecond, Hollow}
 use Rattle.promise.proofs.ImageLaws.{image-mark, image-number}
 use Rattle.promise.proofs.DemandLaws.{fits, run-is, demand3}
-use Rattle.promise.proofs.Life.{bytes-each, given, lived}
+use Rattle.promise.proofs.Each.{bytes-each}
+use Rattle.promise.proofs.Life.{given, lived}
 
 -- ---- the life in numbers
 

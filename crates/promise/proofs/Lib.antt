@@ -10,8 +10,14 @@ pub mod InventoryLists
 pub mod PlanFixed
 pub mod PlanRepaired
 pub mod PlanRows
+pub mod LossesFixed
+pub mod LossesReads
+pub mod Each
+pub mod ListedLosses
+pub mod LifeLosses
 pub mod Life
 pub mod Worked
 pub mod PlanCases
+pub mod LossCases
 pub mod SmallCases
 pub mod Hollow

@@ -1,13 +1,12 @@
 -- Both lives in numbers, by demand 3 and by computing. Assumes nothing.
 use Prim.Native.Nat.{ℕ, zero, suc, _+_, _*_, _<_, _≤_}
-use mathlib.Core.Path.{_≡_, refl, sym, ap, _∙_}
+use mathlib.Core.Path.{_≡_, refl, sym, ap, subst, _∙_}
 use mathlib.Core.Bool.{true}
 use mathlib.Core.List.{List, [], _∷_}
 use native.Mathlib.Omega.{arith}
 use lib.Dec.{lit≤}
-use lib.ListN.{length}
 use borrow.Author.Tests.{lt-leb}
-use Rattle.lists.specs.Lists.{at, tab, zeroPadded, flat, over, anyOf, anyBelow, howMany, filtered, Bytes}
+use Rattle.lists.specs.Lists.{at, tab, zeroPadded, flat, over, anyOf, anyBelow, howMany, filtered}
 use Rattle.lists.proofs.TabLaws.{length-tab, tab-at}
 use Rattle.lists.proofs.PutLaws.{flat-at}
 use Rattle.answer.specs.declared.Outcome.the-variants.{Done, Refused}
@@ -43,6 +42,8 @@ use Rattle.promise.specs.Life as L
 use Rattle.promise.specs.Life.{Numbers, calls, table, archive, Lived}
 use Rattle.promise.proofs.ImageLaws.{recordOver, image-over}
 use Rattle.promise.proofs.DemandLaws.{demand3, run-is}
+use Rattle.promise.proofs.Each.{Each, each, bytes-each}
+use Rattle.promise.proofs.LifeLosses.{LossesAre, losses-are}
 
 -- ---- what is computed, of both lives
 
@@ -68,19 +69,6 @@ Answers w =
 table-answers : Answers L.one × Answers L.three
 unfolding answerFor refuse anyOf anyBelow outside afterwards written over
 table-answers = (refl, refl)
-
--- what holds of the elements of a list, one by one, holds at each index
-abbrev pub Each : (ℕ → Type 0) → List ℕ → Type 0
-Each P [] = Unit {0}
-Each P (x ∷ xs) = P x × Each P xs
-
-each : (P : ℕ → Type 0) (xs : List ℕ) → Each P xs → (i : ℕ) → i < length xs → P (at xs i)
-each P [] h i l = absurd (omega arith)
-each P (x ∷ xs) h zero l = h .0
-each P (x ∷ xs) h (suc i) l = each P xs (h .1) i (omega arith)
-
-pub bytes-each : (xs : List ℕ) → Each (λ x. x < 256) xs → Bytes xs
-bytes-each = each (λ x. x < 256)
 
 -- the places of a list are filled
 abbrev AllFilled : ℕ → ℕ → List ℕ → Type 0
@@ -254,20 +242,22 @@ module _ (w : Numbers) (o : Opens w) (u : SetsUp w) where
           expectedBy : List ℕ → List ℕ
           expectedBy x = responseFor 3 (w .tags) L.id L.maskKey x (audited f .seed) 2 block (λ s. product 5 block (keyVector L.tagKey L.id s))
 
-  life : Answers w → (f : Filled w) → Rows w → Shelf w → Vectors w → Image → Elements → Expected f → Lived w
-  life answers f rows shelved vectors image elements response =
+  life : Answers w → (f : Filled w) → Rows w → Shelf w → Vectors w → Image → Elements → Expected f → LossesAre (w .archiveBytes) → Lived w
+  life answers f rows shelved vectors image elements response losses =
       let d : Demand lives (calls (w .tags)) (table (w .tags)) (archive (w .layout) (w .tags)) = demand3 lives (calls (w .tags)) life-admitted in
       let sends = d .audits (audited f) .sends ∙ response in
       let telling : Telling lives (table (w .tags)) (archive (w .layout) (w .tags)) (audited f) =
       record { one = 0; one-there = omega arith; one-not = λ e. let x : _≡_ {A = ℕ} 0xc8 0 = sym (rows .0) ∙ e in omega arith } in
+      let left : archive (w .layout) (w .tags) ≡ w .archiveBytes = run-is lives (calls (w .tags)) life-admitted ∙ image in
       record {
         opens = o;
         sets-up = u;
         file-bytes = bytes-each (0x57 ∷ 0x01 ∷ []) (omega arith, (omega arith, tt));
         admitted = life-admitted;
         answers = d .answers ∙ answers;
-        archive-is = run-is lives (calls (w .tags)) life-admitted ∙ image;
+        archive-is = left;
         inventory-is = λ out e. let i = d .inventory out .0 e in (i .0 ∙ ap Count (shelved .0), i .1 ∙ shelved .1);
+        losses-are = subst LossesAre (sym left) losses;
         vectors-are = vectors;
         auxiliary-are = elements;
         audit = audited f;
@@ -301,6 +291,12 @@ responses-over = (refl, refl)
 
 pub lived : Lived L.one × Lived L.three
 lived = (
-  life L.one (opens .0) (sets-up .0) (table-answers .0) (all-filled .0) (rows .0) (shelves .0) (vectors .0) (image-of L.one (opens .0) (sets-up .0) (vectors .0) (lit≤ tt) (images-over .0)) (elements .0) (expected-of L.one (opens .0) (sets-up .0) (vectors .0) (lit≤ tt) (all-filled .0) (elements .0) (responses-over .0)),
-  life L.three (opens .1) (sets-up .1) (table-answers .1) (all-filled .1) (rows .1) (shelves .1) (vectors .1) (image-of L.three (opens .1) (sets-up .1) (vectors .1) (lit≤ tt) (images-over .1)) (elements .1) (expected-of L.three (opens .1) (sets-up .1) (vectors .1) (lit≤ tt) (all-filled .1) (elements .1) (responses-over .1)),
+  life L.one (opens .0) (sets-up .0) (table-answers .0) (all-filled .0) (rows .0) (shelves .0) (vectors .0)
+      (image-of L.one (opens .0) (sets-up .0) (vectors .0) (lit≤ tt) (images-over .0)) (elements .0)
+      (expected-of L.one (opens .0) (sets-up .0) (vectors .0) (lit≤ tt) (all-filled .0) (elements .0) (responses-over .0))
+      (losses-are .0),
+  life L.three (opens .1) (sets-up .1) (table-answers .1) (all-filled .1) (rows .1) (shelves .1) (vectors .1)
+      (image-of L.three (opens .1) (sets-up .1) (vectors .1) (lit≤ tt) (images-over .1)) (elements .1)
+      (expected-of L.three (opens .1) (sets-up .1) (vectors .1) (lit≤ tt) (all-filled .1) (elements .1) (responses-over .1))
+      (losses-are .1),
 )

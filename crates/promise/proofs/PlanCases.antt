@@ -20,7 +20,7 @@ use Rattle.archive.specs.Repair.{repairByte}
 use Rattle.archive.specs.Plan.{repairRow, wantedRow, thetaIn, Planned, Unreachable, planBefore, PlanAnswer, PlanAllows}
 use Rattle.archive.proofs.PlanLaws.{planned-reaches}
 use Rattle.promise.specs.Worked as W
-use Rattle.promise.proofs.Life.{bytes-each}
+use Rattle.promise.proofs.Each.{bytes-each}
 use Rattle.promise.proofs.Worked.{two-sizes}
 
 -- ---- boxes 0 and 2, one block each

@@ -58,7 +58,7 @@ enough-same z f g r r′ count same rows e =
     record {
       least = e .least;
       most = rw (← howMany-same (placeCount z) f g same) (e .most);
-      suffice = λ b. e .suffice (blind-same z _ _ r′ r (λ k h. sym (among-same z count f g same k h)) (λ k i h hi. sym (rows k i h hi)) b);
+      suffice = λ b. e .suffice (blind-same z _ _ r′ r (λ k h. sym (among-same z count f g same k h)) (λ k i h t hi. sym (rows k i h hi)) b);
     }
 
 -- ---- answers
@@ -131,10 +131,10 @@ module _ (s : Setting) (F : Fit s) (t : Table) (fine : AllFine (s .z) t) where
   row-is k i h hi = image-rows s F t k i (fine-at k h) h hi
 
   to-table : Blind (s .z) (markAt A) (rowIn (s .z) A) → Blind (s .z) isF row
-  to-table = blind-same (s .z) _ _ _ _ mark-is row-is
+  to-table = blind-same (s .z) _ _ _ _ mark-is (λ k i h t hi. row-is k i h hi)
 
   to-archive : Blind (s .z) isF row → Blind (s .z) (markAt A) (rowIn (s .z) A)
-  to-archive = blind-same (s .z) _ _ _ _ (λ k h. sym (mark-is k h)) (λ k i h hi. sym (row-is k i h hi))
+  to-archive = blind-same (s .z) _ _ _ _ (λ k h. sym (mark-is k h)) (λ k i h t hi. sym (row-is k i h hi))
 
   -- the file solves every place's equations
   file-solves : (k e : ℕ) → k < placeCount (s .z) → e < s .z .n - 2

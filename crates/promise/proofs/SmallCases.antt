@@ -25,6 +25,7 @@ use Rattle.promise.specs.Worked as W
 use Rattle.promise.specs.SmallCases.{headed, SmallCases}
 use Rattle.promise.proofs.ImageLaws.{image-good, opened-is}
 use Rattle.promise.proofs.PlanCases.{planned-two, unplanned-one}
+use Rattle.promise.proofs.LossCases.{all-hurt, not-by-byte, nothing-lost, one-lost, two-lost, all-lost, not-kept, no-archive, four-of-three, list-of-19}
 
 not-ten : (r : Refusal) → refusalNumber r ≢ 10
 not-ten Size e = omega arith
@@ -95,4 +96,14 @@ smallCases =
       none-lent = lent-wrong 0 0 .2;
       planned = planned-two;
       out-of-reach = unplanned-one;
+      all-hurt = all-hurt;
+      not-by-byte = not-by-byte;
+      nothing-lost = nothing-lost;
+      one-lost = one-lost;
+      two-lost = two-lost;
+      all-lost = all-lost;
+      not-kept = not-kept;
+      no-archive = no-archive;
+      four-of-three = four-of-three;
+      list-of-19 = list-of-19;
     }

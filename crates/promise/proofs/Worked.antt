@@ -31,7 +31,7 @@ use Rattle.answer.specs.declared.Outcome.the-variants.{Done}
 use Rattle.answer.specs.declared.Refusal.the-variants.{Unreadable}
 use Rattle.answer.specs.declared.Counted.the-variants.{Count, Refused}
 use Rattle.promise.specs.Worked as W
-use Rattle.promise.proofs.Life.{bytes-each}
+use Rattle.promise.proofs.Each.{bytes-each}
 
 -- ---- Read: the archive with two places
 
@@ -69,7 +69,7 @@ second-zero v e z h =
     ap (λ (x : ℕ). plus x (times 3 (v 1))) (sym (times-zero 2) ∙ ap (times 2) (sym z)) ∙ sym (two-terms (rowIn W.z W.two 2) v) ∙ e ∙ sym (times-zero 3) in
     sym (mod-eq-of-lt h) ∙ times-cancel 3 (v 1) 0 (omega arith) (omega arith) q
 
-sighted : (named : ℕ → Bool) → named 0 ≡ true → named 2 ≡ true → ¬ Blind W.z named (rowIn W.z W.two)
+pub sighted : (named : ℕ → Bool) → named 0 ≡ true → named 2 ≡ true → ¬ Blind W.z named (rowIn W.z W.two)
 sighted named n0 n2 b = go (b .one) (b .one-there) (b .one-not)
   where
     v0 : b .v 0 ≡ 0
@@ -111,11 +111,11 @@ solves (suc (suc zero)) zero h t l = refl
 solves (suc (suc (suc k))) zero h t l = absurd (omega arith)
 solves k (suc e) h t l = absurd (omega arith)
 
-first-marked : markAt W.two 0 ≡ true
+pub first-marked : markAt W.two 0 ≡ true
 unfolding markAt bitAt
 first-marked = refl
 
-third-marked : markAt W.two 2 ≡ true
+pub third-marked : markAt W.two 2 ≡ true
 unfolding markAt bitAt
 third-marked = refl
 

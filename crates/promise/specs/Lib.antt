@@ -3,6 +3,7 @@ pub mod Image
 pub mod Demand3
 pub mod Companions
 pub mod Plans
+pub mod Losing
 pub mod Life
 pub mod Worked
 pub mod SmallCases

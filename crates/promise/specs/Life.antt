@@ -5,7 +5,7 @@ use Prim.Native.Nat.{ℕ, _*_}
 use mathlib.Core.Path.{_≡_, refl}
 use mathlib.Core.List.{List, [], _∷_}
 use lib.ListN.{length}
-use Rattle.lists.specs.Lists.{at, tab, flat, Bytes}
+use Rattle.lists.specs.Lists.{at, tab, flat, zeroPadded, Bytes}
 use Rattle.answer.specs.declared.Outcome.the-variants.{Done, Refused}
 use Rattle.answer.specs.declared.Counted.the-variants.{Count}
 use Rattle.answer.specs.declared.Refusal.the-variants.{Length, NoSuchPlace, PlaceEmpty, PlaceFilled, ProvesNothing}
@@ -16,6 +16,7 @@ use Rattle.mask.specs.Setup.{setupAnswer}
 use Rattle.audit.specs.declared.Judgement.the-variants.{Accepted, Refused as RefusedJudgement}
 use Rattle.archive.specs.Open.{openAnswer, openOut}
 use Rattle.archive.specs.Inventory.{inventoryAnswer, inventoryOut}
+use Rattle.archive.specs.Losses.{LossesAllows}
 use Rattle.archive.specs.Calls.{Call, encode, lose, repair, archiveAnswers, archiveRun}
 use Rattle.promise.specs.Table.{Table, allEmpty, tableRun}
 use Rattle.promise.specs.Demand3.{Given, givenAuxiliary, Admitted, Honest, message, sent, says, Telling, Silent}
@@ -156,6 +157,12 @@ pub record Lived (w : Numbers) : Type 0 where
   pub inventory-is : (out : List ℕ) → length out ≡ 6
       → (inventoryAnswer (archive (w .layout) (w .tags)) out ≡ Count 4)
       × (inventoryOut (archive (w .layout) (w .tags)) out ≡ 0x08 ∷ 0x09 ∷ 0x10 ∷ 0x11 ∷ 0x00 ∷ 0x00 ∷ [])
+  -- whatever Losses is lent: of every size the sets with node 2, and no other
+  pub losses-are : (out : List ℕ) → length out ≡ 20
+      → LossesAllows (archive (w .layout) (w .tags)) 0 out (Count 0) (zeroPadded 20 [])
+      × LossesAllows (archive (w .layout) (w .tags)) 1 out (Count 1) (zeroPadded 20 (0x04 ∷ []))
+      × LossesAllows (archive (w .layout) (w .tags)) 2 out (Count 2) (zeroPadded 20 (0x05 ∷ 0x06 ∷ []))
+      × LossesAllows (archive (w .layout) (w .tags)) 3 out (Count 1) (zeroPadded 20 (0x07 ∷ []))
   pub vectors-are : flat (w .tags) 5 (λ s. at (vectorOut tagKey id 3 2 s (tab 5 (λ i. 0)))) ≡ w .vectorBytes
   pub auxiliary-are : givenAuxiliary (given (w .layout) (w .tags) opens sets-up file-bytes) ≡ w .auxiliaryBytes
   -- node 2, places 0 and 1, coefficients 07 and b5

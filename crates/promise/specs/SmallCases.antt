@@ -7,7 +7,7 @@ use mathlib.Core.Logic.{_≢_}
 use lib.ListN.{length}
 use Rattle.answer.specs.declared.Refusal.{Refusal}
 use Rattle.answer.specs.declared.Outcome.the-variants.{Done, Refused}
-use Rattle.answer.specs.declared.Refusal.the-variants.{NoPlan}
+use Rattle.answer.specs.declared.Refusal.the-variants.{Size, Length, BadArchive, NoPlan}
 use Rattle.answer.specs.Numbers.{refusalNumber, outcomeNumber}
 use Rattle.bits.specs.Fields.{pack, packed}
 use Rattle.sizes.specs.declared.Sizes.{Sizes}
@@ -16,10 +16,12 @@ use Rattle.message.specs.Challenge.{Challenge, challengeOf, malformedChallenge,
 use Rattle.sizes.specs.Lengths.{archiveLength}
 use Rattle.archive.specs.Layout.{layoutOutside, sizeFields, badArchive}
 use Rattle.archive.specs.Open.{opened, openAnswer}
-use Rattle.lists.specs.Lists.{at, tab, bit, Bytes}
+use Rattle.lists.specs.Lists.{at, tab, bit, zeroPadded, Bytes}
 use Rattle.archive.specs.Inventory.{inventoryAnswer, inventoryOut}
 use Rattle.archive.specs.Plan.{PlanAllows}
-use Rattle.answer.specs.declared.Counted.the-variants.{Count}
+use Rattle.archive.specs.Losses.{LossesAllows}
+use Rattle.answer.specs.declared.Counted.{Counted}
+use Rattle.answer.specs.declared.Counted.the-variants.{Count, Refused as RefusedCount}
 use Rattle.answer.specs.Counted.{countedNumber}
 use Rattle.promise.specs.Table.{Table, allEmpty}
 use Rattle.promise.specs.Image.{Setting, image}
@@ -41,6 +43,10 @@ abbrev pub headed : (i : ℕ) → List ℕ
 headed i =
     at (0x30 ∷ 0x10 ∷ 0x20 ∷ 0x20 ∷ 0x20 ∷ []) i ∷ 0x06 ∷ 0x21 ∷ at (0x62 ∷ 0x62 ∷ 0x60 ∷ 0x76 ∷ 0x63 ∷ []) i
     ∷ tab (at (32 ∷ 32 ∷ 29 ∷ 62 ∷ 32 ∷ []) i) (λ j. 0)
+
+-- four nodes of one place, as Open writes them
+abbrev pub fourEmpty : List ℕ
+fourEmpty = opened 1 (record { n = 3; m = 2; places = 1; nodes = 4; tags = 1 }) (tab 8 (λ i. i))
 
 pub record SmallCases : Type 0 where
   -- nothing answers 10
@@ -79,3 +85,20 @@ pub record SmallCases : Type 0 where
   -- its rows are 01 00 and 02 03: boxes 0 and 2 give the row 00 03 by the thetas 02 01, and box 0 alone does not reach it
   pub planned : PlanAllows W.two (0 ∷ 2 ∷ []) 1 (1 ∷ 1 ∷ []) (0 ∷ 3 ∷ []) (0 ∷ 0 ∷ []) Done (2 ∷ 1 ∷ [])
   pub out-of-reach : PlanAllows W.two (0 ∷ []) 1 (1 ∷ []) (0 ∷ 3 ∷ []) (0 ∷ []) (Refused NoPlan) (0 ∷ [])
+  -- Losses of four nodes, none filled: all sets of two, by the numbers of their nodes, and not by the bytes: 09 before 06
+  pub all-hurt : (lent : List ℕ) → length lent ≡ 20
+      → LossesAllows fourEmpty 2 lent (Count 6) (zeroPadded 20 (0x03 ∷ 0x05 ∷ 0x09 ∷ 0x06 ∷ 0x0a ∷ 0x0c ∷ []))
+  pub not-by-byte : (lent sets : List ℕ) (answer : Counted) → length lent ≡ 20 → LossesAllows fourEmpty 2 lent answer sets
+      → sets ≢ zeroPadded 20 (0x03 ∷ 0x05 ∷ 0x06 ∷ 0x09 ∷ 0x0a ∷ 0x0c ∷ [])
+  -- of the two rows: none while nothing is lost; node 0 and node 2, but not node 1, which is empty; every two nodes; all three
+  pub nothing-lost : (lent : List ℕ) → length lent ≡ 20 → LossesAllows W.two 0 lent (Count 0) (zeroPadded 20 [])
+  pub one-lost : (lent : List ℕ) → length lent ≡ 20 → LossesAllows W.two 1 lent (Count 2) (zeroPadded 20 (0x01 ∷ 0x04 ∷ []))
+  pub two-lost : (lent : List ℕ) → length lent ≡ 20 → LossesAllows W.two 2 lent (Count 3) (zeroPadded 20 (0x03 ∷ 0x05 ∷ 0x06 ∷ []))
+  pub all-lost : (lent : List ℕ) → length lent ≡ 20 → LossesAllows W.two 3 lent (Count 1) (zeroPadded 20 (0x07 ∷ []))
+  -- the nodes that are kept in place of those that are lost: not so
+  pub not-kept : (lent sets : List ℕ) (answer : Counted) → length lent ≡ 20 → LossesAllows W.two 1 lent answer sets
+      → sets ≢ zeroPadded 20 (0x06 ∷ 0x03 ∷ [])
+  -- refused: no archive, 3, whatever else is wrong; more nodes than there are, 1, whatever list is lent; a list of 19 bytes, 2
+  pub no-archive : (k : ℕ) (lent : List ℕ) → LossesAllows [] k lent (RefusedCount BadArchive) lent
+  pub four-of-three : (lent : List ℕ) → LossesAllows W.two 4 lent (RefusedCount Size) lent
+  pub list-of-19 : (lent : List ℕ) → length lent ≡ 19 → LossesAllows W.two 3 lent (RefusedCount Length) lent

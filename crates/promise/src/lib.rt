@@ -6,6 +6,7 @@ ghost use Rattle.promise.specs.SmallCases.{SmallCases};
 ghost use Rattle.promise.specs.Hollow.{Hollow};
 ghost use Rattle.promise.specs.Companions.{Unmasking, ReadIsFixed, InventoryLists};
 ghost use Rattle.promise.specs.Plans.{PlanIsFixed, PlannedRepair, NoThetas, PlanReadsRows};
+ghost use Rattle.promise.specs.Losing.{LossesAreFixed, LossesAreReads};
 
 // Demand 3: a single claim about every list of Encode, Lose and Repair calls.
 pub fn demand3()
@@ -45,6 +46,16 @@ pub fn no_thetas()
 // A plan for one archive is a plan for any other with the same rows.
 pub fn plan_reads_rows()
     ensures { λ _. ⌜ PlanReadsRows ⌝ }
+{}
+
+// Losses has one answer and one list for every archive.
+pub fn losses_are_fixed()
+    ensures { λ _. ⌜ LossesAreFixed ⌝ }
+{}
+
+// Losses lists what Lose and then Read would show.
+pub fn losses_are_reads()
+    ensures { λ _. ⌜ LossesAreReads ⌝ }
 {}
 
 // The premises of demand 3 can be met, in layout 1 and with three tags: a concrete life, its bytes computed.

@@ -16,7 +16,7 @@ use Rattle.vector.specs.Vectors.{product, mixed}
 use Rattle.sizes.proofs.SizeLaws.{Ranged}
 use Rattle.vector.proofs.VectorLaws.{mixed-lt, product-keys}
 use Rattle.linear.specs.PrivateElimination.{Matrix, Reduces}
-use Rattle.archive.specs.Layout.{sizesOf, byteIn, badArchive}
+use Rattle.archive.specs.Layout.{sizesOf, markAt, byteIn, badArchive}
 use Rattle.sizes.specs.Lengths.{fileLength}
 use Rattle.archive.specs.Read.{rowIn, Solved, readBefore, ReadFor, ReadAllows}
 use Rattle.answer.specs.declared.Counted.the-variants.{Count, Refused}
@@ -27,7 +27,7 @@ use Rattle.choice.proofs.WholeLaws.{taken-listed, listed-low, count-full, takes
 use Rattle.reading.proofs.PlaceRowLaws.{row-byte}
 use Rattle.reading.proofs.ReadingLaws.{ChosenIn, unreadable, readable, enough}
 
-module _ (z : Sizes) (s : List ℕ) (c : Chosen) (chosen : ChosenIn z s c) (t : Matrix) (rank : ℕ)
+module _ (z : Sizes) (s : List ℕ) (c : Chosen) (chosen : ChosenIn z s (markAt s) c) (t : Matrix) (rank : ℕ)
     (reduced : Reduces (c .count) (z .m) (listedRows (rowIn z s) c) t rank) where
   -- block i without its padding
   abbrev block : ℕ → ℕ → ℕ
@@ -74,14 +74,14 @@ module _ (z : Sizes) (s : List ℕ) (c : Chosen) (chosen : ChosenIn z s c) (t : 
 
     -- rank below m
     pub refuses : rank < z .m → ReadAllows s out (Refused Unreadable) out
-    refuses below = subst (λ (x : Sizes). ReadFor x s out (Refused Unreadable) out) read (refl, inr (not-before, refl, unreadable z s c chosen t rank reduced below))
+    refuses below = subst (λ (x : Sizes). ReadFor x s out (Refused Unreadable) out) read (refl, inr (not-before, refl, unreadable z s (markAt s) c chosen t rank reduced below))
 
     -- rank m
     pub reads : {file : List ℕ} → ((i : ℕ) → at s i < 256) → rank ≡ z .m → file ≡ grid (z .m) (z .n - 2) 0 block out → ReadAllows s out (Count (c .consulted)) file
     reads {file} low full written =
         subst (λ (x : Sizes). ReadFor x s out (Count (c .consulted)) file) read (
           not-before,
-          readable z s c chosen t rank reduced full,
+          readable z s (markAt s) c chosen t rank reduced full,
           solved (read-sizes s read good) low full out (rw read size) written,
-          enough z s c chosen t rank reduced full,
+          enough z s (markAt s) c chosen t rank reduced full,
         )

@@ -1,18 +1,23 @@
-// The rows that Read chooses among, by node and then place, and which of them may be taken: those of filled places.
+// The rows that Read chooses among, by node and then place, which of them may be taken, those of filled places, and the elimination of those
+// that were.
 ghost use mathlib.Core.Path.{_≡_};
 ghost use mathlib.Core.Bool.{false};
 ghost use Prim.Native.Nat.{ℕ, _<_, _≤_};
 ghost use lib.ListN.{length};
 ghost use Rattle.sizes.specs.Sizes.{sizesOutside};
-ghost use Rattle.sizes.specs.Lengths.{headerLength, placeCount};
-ghost use Rattle.choice.specs.PrivateChoice.{offered};
+ghost use Rattle.sizes.specs.Lengths.{headerLength, placeCount, archiveLength};
+ghost use Rattle.lists.specs.Lists.{at};
+ghost use Rattle.linear.specs.PrivateElimination.{cells, Reduces};
+ghost use Rattle.choice.specs.PrivateChoice.{offered, listedRows, WholeChoice};
 ghost use Rattle.archive.specs.Layout.{markAt};
+ghost use Rattle.archive.specs.Read.{rowIn};
 ghost use Rattle.reading.specs.PrivateRows.{rowsIn};
+use choice::Chosen;
 use choice::Rows;
 use sizes::Sizes;
 
 // Where the rows of an archive stand.
-pub fn rows_in(z: Sizes) -> Rows
+fn rows_in(z: Sizes) -> Rows
     requires { ⌜ sizesOutside z ≡ false ⌝ }
     ensures { λ r. ⌜ r ≡ rowsIn z ⌝ }
 {
@@ -38,4 +43,27 @@ pub fn marks(archive: &[u8], z: Sizes) -> [u8; 48]
         }
     }
     out
+}
+
+// The places taken among the candidates.
+pub fn take(archive: &[u8], z: Sizes, candidates: [u8; 48]) -> Chosen
+    requires { ⌜ (sizesOutside z ≡ false) × (length (now archive) ≡ archiveLength z) ⌝ }
+    ensures { λ r. ⌜ WholeChoice (placeCount z) (z .m) (rowIn z (now (archive .entry))) (offered candidates) r ⌝ }
+{
+    choice::choose(archive, rows_in(z), candidates)
+}
+
+// Elimination of the rows of the places taken.
+pub fn eliminate(archive: &[u8], z: Sizes, chosen: Chosen, rank: &mut usize) -> [[u8; 16]; 16]
+    requires { ⌜ (sizesOutside z ≡ false)
+        × (length (now archive) ≡ archiveLength z)
+        × (chosen .count ≤ z .m)
+        × ((t : ℕ) → t < chosen .count → at (chosen .numbers) t < placeCount z) ⌝ }
+    ensures { λ t.
+        let archive = now (archive .entry) in
+        ⌜ Reduces (chosen .count) (z .m) (listedRows (rowIn z archive) chosen) (cells t) (now (rank .exit)) ⌝ }
+{
+    let places = chosen.numbers;
+    let rows = choice::rows_of(archive, rows_in(z), places, chosen.count);
+    linear::reduce(rows, chosen.count, z.m, rank)
 }

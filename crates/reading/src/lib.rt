@@ -10,8 +10,9 @@ ghost use Rattle.sizes.specs.Lengths.{fileLength};
 ghost use Rattle.archive.specs.Read.{ReadAllows};
 use answer::Counted;
 use answer::Refusal;
-use choosing::marks;
-use choosing::rows_in;
+pub use choosing::eliminate;
+pub use choosing::marks;
+pub use choosing::take;
 use solving::solve;
 
 // The file and the number of places consulted, where the rows determine it.
@@ -20,17 +21,15 @@ fn read_file(archive: &[u8], file: &mut [u8]) -> Counted
     ensures { λ r. ⌜ ReadAllows (now (archive .entry)) (now (file .entry)) r (now (file .exit)) ⌝ }
 {
     let z = archive::sizes_in(archive);
-    let rows = rows_in(z);
-    let c = choice::choose(archive, rows, marks(archive, z));
-    let places = c.numbers;
-    let taken = choice::rows_of(archive, rows, places, c.count);
+    let chosen = take(archive, z, marks(archive, z));
     let mut rank = 0;
-    let combinations = linear::reduce(taken, c.count, z.m, &mut rank);
+    let combinations = eliminate(archive, z, chosen, &mut rank);
     if rank < z.m {
         return Counted::Refused(Refusal::Unreadable);
     }
+    let places = chosen.numbers;
     solve(archive, z, places, combinations, file);
-    Counted::Count(c.consulted)
+    Counted::Count(chosen.consulted)
 }
 
 // The file of an archive, and how many filled places were consulted.

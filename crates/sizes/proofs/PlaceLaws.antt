@@ -23,6 +23,10 @@ module _ (z : Sizes) (R : Ranged z) where
   pub place-of : (k : ℕ) → k % z .places < z .places
   place-of k = mod-lt k (R .places-low)
 
+-- the places of a node are among those there are
+pub node-fits : (z : Sizes) (node : ℕ) → node < z .nodes → node * z .places + z .places ≤ placeCount z
+node-fits z node h = omega (arith, mul-le-mul-right (z .places) h)
+
 -- the record of a place lies in the archive
 pub record-fits : (z : Sizes) (k : ℕ) → k < placeCount z → recordStart z k + recordLength z ≤ archiveLength z
 record-fits z k h = omega (arith, mul-le-mul-right {m = k + 1} {n = placeCount z} (recordLength z) (omega arith))

@@ -20,6 +20,7 @@ ghost use Rattle.answer.specs.Counted.{countedNumber, countedValue, CountedAnsw
 ghost use Rattle.archive.specs.Inventory.{inventoryAnswer, inventoryOut};
 ghost use Rattle.archive.specs.Read.{ReadAllows};
 ghost use Rattle.archive.specs.Plan.{PlanAllows};
+ghost use Rattle.archive.specs.Losses.{LossesAllows};
 ghost use Rattle.sizes.specs.declared.Sizes.{Sizes};
 use answer::Counted;
 
@@ -352,4 +353,14 @@ pub extern "C" fn span_read(archive: &[u8], file: &mut [u8], consulted: &mut u8)
         ⌜ CountedAnswer allows r (now (consulted .entry)) (now (consulted .exit)) ⌝ }
 {
     tell(reading::read(archive, file), consulted)
+}
+
+#[no_mangle]
+pub extern "C" fn span_losses(archive: &[u8], k: usize, sets: &mut [u8], count: &mut u8) -> u8
+    ensures { λ r.
+        let archive = now (archive .entry) in
+        let allows : Counted → Type 0 = λ answer. LossesAllows archive k (now (sets .entry)) answer (now (sets .exit)) in
+        ⌜ CountedAnswer allows r (now (count .entry)) (now (count .exit)) ⌝ }
+{
+    tell(losses::losses(archive, k, sets), count)
 }

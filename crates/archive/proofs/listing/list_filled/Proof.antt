@@ -4,18 +4,21 @@ use Prim.Native.Nat.{_≤_, _-_}
 use mathlib.Core.Path.{_≡_, sym, ap, _∙_}
 use mathlib.Core.Logic.{⊎-elim}
 use native.Mathlib.Omega.{arith}
+use Rattle.lists.proofs.ListingLaws.{Listing, listing-size, listing-none, listing-skip, listing-take}
 use Rattle.sizes.specs.declared.Sizes.{Sizes}
 use Rattle.sizes.specs.Lengths.{placeCount}
 use Rattle.archive.specs.Layout.{sizesOf, markAt}
+use Rattle.archive.specs.Inventory.{placeCode}
 use Rattle.sizes.proofs.PlaceLaws.{count-low}
 use Rattle.archive.proofs.GoodArchiveLaws.{good-sizes, good-length}
-use Rattle.archive.proofs.ListingLaws.{Listing, count-read, few, parts-low, listing-size, listing-none, listing-skip, listing-take, listing-all}
+use Rattle.archive.proofs.ListingLaws.{count-read, parts-low, code-is, listing-all}
 use Rattle.archive.proofs.listing.list_filled.Statement.{statement}
 use Rattle.archive.proofs.listing.list_filled.Tie as tie
 
 abbrev Inv-loop : tie.InvT-loop
 Inv-loop archive list₀ places count₀ k₀ k-end list count k =
-    (k ≤ k-end) × (places ≡ sizesOf archive .places) × (k-end ≡ placeCount (sizesOf archive)) × Listing (sizesOf archive) (markAt archive) k count list
+    (k ≤ k-end) × (places ≡ sizesOf archive .places) × (k-end ≡ placeCount (sizesOf archive))
+    × Listing (placeCount (sizesOf archive)) (placeCode (sizesOf archive)) (markAt archive) k count list × (count ≤ k)
 
 abbrev μ-loop : tie.MeasureT-loop
 μ-loop archive list₀ places count₀ k₀ k-end list count k = k-end - k
@@ -34,7 +37,8 @@ loop-holds c =
       omega arith,
       ap (λ (z : Sizes). z .places) (sized .sizes-in .ensures),
       count-read (sized .sizes-in .ensures),
-      listing-none _ _ (sized .before .before .before .pre .1) (c .before .before .before .clear .ensures),
+      listing-none _ _ _ (sized .before .before .before .pre .1) (c .before .before .before .clear .ensures),
+      omega arith,
     )
 
 marked-requires : tie.Need-marked-requires Inv-loop μ-loop
@@ -65,13 +69,13 @@ add-list c =
 slice-write-list : tie.Need-slice-write-list Inv-loop μ-loop
 slice-write-list c =
     let i = c .before .before .before .loop .inv in
-    omega (arith, few _ _ (i .3), listing-size _ _ (omega arith) (i .3))
+    omega (arith, i .4, listing-size _ _ _ (omega (arith, i .4)) (i .3))
 
 add-count : tie.Need-add-count Inv-loop μ-loop
 add-count c =
     let good = c .before .before .before .before .before .before .before .before .before .before .before .before .pre .0 in
     let i = c .before .before .before .loop .inv in
-    omega (arith, few _ _ (i .3), count-low _ (good-sizes _ good))
+    omega (arith, i .4, count-low _ (good-sizes _ good))
 
 loop-again : tie.Need-loop-again Inv-loop μ-loop
 loop-again c =
@@ -81,13 +85,16 @@ loop-again c =
       omega arith,
       i .1,
       i .2,
-      ⊎-elim (λ w. listing-take _ _ R (i .1) (omega arith) mark (w .0 .taken) (w .1) (w .2) (i .3)) (λ w. listing-skip _ _ mark (w .0 .left) (w .1) (w .2) (i .3))
-          (c .if1 .came),
+      ⊎-elim
+          (λ w.
+          listing-take _ _ _ (sym mark ∙ w .0 .taken) (omega (arith, i .4)) (code-is _ R _ (i .1) (omega arith)) (w .1) (w .2) (i .3))
+          (λ w. listing-skip _ _ _ (sym mark ∙ w .0 .left) (w .1) (w .2) (i .3)) (c .if1 .came),
+      ⊎-elim (λ w. omega (arith, i .4, w .2)) (λ w. omega (arith, i .4, w .2)) (c .if1 .came),
     )
 
 same-length : tie.Need-same-length Inv-loop μ-loop
 same-length c =
-    listing-size _ _ (omega arith) (c .before .loop .inv .3)
+    listing-size _ _ _ (omega (arith, c .before .loop .inv .4)) (c .before .loop .inv .3)
     ∙ sym (c .before .before .before .before .before .before .before .before .before .before .pre .1)
 
 returns : tie.Need-returns Inv-loop μ-loop

@@ -1,0 +1,3 @@
+pub mod SetLaws
+pub mod RemainLaws
+pub mod ListLaws
