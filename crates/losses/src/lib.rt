@@ -37,7 +37,8 @@ fn without(filled: [u8; 48], z: Sizes, set: usize) -> [u8; 48]
     out
 }
 
-// Whether the file cannot be read without the nodes of a set.
+// Whether the file cannot be read without the nodes of a set. The rank is the number of rows taken; elimination also has, where that is too
+// few, the vector that they leave open.
 fn hurts(archive: &[u8], z: Sizes, filled: [u8; 48], set: usize) -> bool
     requires { ⌜ (sizesOutside z ≡ false)
         × (length (now archive) ≡ archiveLength z)

@@ -37,7 +37,8 @@ pub fn is_sized(nodes: usize, k: usize, set: usize) -> bool
     set < 1 << nodes && size_of(set) == k
 }
 
-// Set x of all those of six nodes, of which sets of one size stand in lexicographic order.
+// Set x of all those of six nodes. From 63 down, read with node 0 as the most significant of six bits, sets of one size come in
+// lexicographic order.
 pub fn set_at(x: usize) -> usize
     requires { ⌜ x < 64 ⌝ }
     ensures { λ r. ⌜ r ≡ setAt x ⌝ }

@@ -1,5 +1,4 @@
-// The rows that Read chooses among, by node and then place, which of them may be taken, those of filled places, and the elimination of those
-// that were.
+// The rows of an archive, by node and then place: which of them may be taken, those of filled places; which are; and the elimination of these.
 ghost use mathlib.Core.Path.{_≡_};
 ghost use mathlib.Core.Bool.{false};
 ghost use Prim.Native.Nat.{ℕ, _<_, _≤_};
