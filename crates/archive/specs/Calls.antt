@@ -4,6 +4,7 @@ use mathlib.Core.Bool.{Bool}
 use mathlib.Core.List.{List, [], _∷_}
 use lib.ListN.{length}
 use Rattle.answer.specs.declared.Outcome.{Outcome}
+use Rattle.answer.specs.declared.Outcome.the-variants.{Done}
 use Rattle.answer.specs.declared.Refusal.the-variants.{BadArchive}
 use Rattle.answer.specs.Refusals.{refuse, afterwards}
 use Rattle.sizes.specs.declared.Sizes.{Sizes}
@@ -54,3 +55,8 @@ archiveAnswers s (c ∷ cs) = archiveAnswer s c ∷ archiveAnswers (archiveAfter
 abbrev pub archiveRun : List ℕ → List Call → List ℕ
 archiveRun s [] = s
 archiveRun s (c ∷ cs) = archiveRun (archiveAfter s c) cs
+
+-- an answer for each call: that it is done
+abbrev pub allDone : List Call → List Outcome
+allDone [] = []
+allDone (c ∷ cs) = Done ∷ allDone cs

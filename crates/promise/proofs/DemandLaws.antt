@@ -8,7 +8,8 @@ use Rattle.lists.specs.Lists.{at, tab}
 use Rattle.lists.proofs.TabLaws.{length-tab, tab-at}
 use Rattle.lists.proofs.AnyLaws.{none-at}
 use Rattle.answer.specs.Refusals.{afterwards}
-use Rattle.answer.proofs.RefusalLaws.{accepted, same}
+use Rattle.answer.specs.declared.Outcome.the-variants.{Done}
+use Rattle.answer.proofs.RefusalLaws.{accepted, same, after-done}
 use Rattle.mask.specs.Setup.{setupAnswer, setupOut}
 use Rattle.sizes.specs.Lengths.{placeNumber, blockLength}
 use Rattle.archive.specs.Open.{openAnswer, openOut}
@@ -32,7 +33,7 @@ fits g =
     let o = accepted _ _ _ (g .open-done) in
     record { laid = none-at _ 0 (o .0); ranged = ranged (g .z) (none-at _ 1 (o .0)); id-size = same _ _ (none-at _ 0 (accepted _ _ _ (o .1) .0)) }
 
-keys : (g : Given) → Keys g
+pub keys : (g : Given) → Keys g
 unfolding setupAnswer setupOut afterwards
 keys g =
     let lengths = accepted _ _ _ (accepted _ _ _ (g .setup-done) .1) .0 in
@@ -42,9 +43,11 @@ keys g =
       auxiliary-are = rw (g .setup-done);
     }
 
-open-is : (g : Given) → openOut (g .layout) (g .z) (g .id) (g .lent) ≡ image (setting g) allEmpty
-unfolding openOut afterwards
-open-is g = rw (g .open-done) (opened-is (setting g))
+-- whatever Open was lent
+open-is : (g : Given) (lent : List ℕ) → openAnswer (g .layout) (g .z) (g .id) lent ≡ Done
+    → openOut (g .layout) (g .z) (g .id) lent ≡ image (setting g) allEmpty
+unfolding openOut
+open-is g lent done = after-done _ _ done ∙ opened-is (setting g)
 
 -- ---- a filled place of the image
 
@@ -85,12 +88,17 @@ on-image g calls t fine answers =
       read = read (setting g) (fits g) t fine (g .file-size) (g .file-bytes);
     }
 
--- the archive after the calls is the image of the table after them
+-- calls on an archive as Open writes it, whatever it was lent: the table's answers, and the image of the table after them
+pub from-new : (g : Given) (lent : List ℕ) → openAnswer (g .layout) (g .z) (g .id) lent ≡ Done → (calls : List Call) → Admitted g allEmpty calls
+    → (archiveAnswers (openOut (g .layout) (g .z) (g .id) lent) calls ≡ tableAnswers (g .z) allEmpty calls)
+    × (archiveRun (openOut (g .layout) (g .z) (g .id) lent) calls ≡ image (setting g) (tableRun (g .z) allEmpty calls))
+from-new g lent done calls a = rw (open-is g lent done) (runs g (fits g) allEmpty calls a)
+
 pub run-is : (g : Given) (calls : List Call) → Admitted g allEmpty calls
     → archiveRun (openOut (g .layout) (g .z) (g .id) (g .lent)) calls ≡ image (setting g) (tableRun (g .z) allEmpty calls)
-run-is g calls a = rw (open-is g) (runs g (fits g) allEmpty calls a .1)
+run-is g calls a = from-new g (g .lent) (g .open-done) calls a .1
 
 pub demand3 : Demand3
 demand3 g calls a =
     rw (run-is g calls a)
-    (on-image g calls (tableRun (g .z) allEmpty calls) (run-fine g allEmpty (λ node place. tt) calls a) (rw (open-is g) (runs g (fits g) allEmpty calls a .0)))
+    (on-image g calls (tableRun (g .z) allEmpty calls) (run-fine g allEmpty (λ node place. tt) calls a) (from-new g (g .lent) (g .open-done) calls a .0))

@@ -4,6 +4,7 @@ pub mod RunLaws
 pub mod AuditLaws
 pub mod ReadAndInventoryLaws
 pub mod DemandLaws
+pub mod FreshLaws
 pub mod Unmask
 pub mod ReadFixed
 pub mod InventoryLists

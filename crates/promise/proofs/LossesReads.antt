@@ -18,18 +18,18 @@ use Rattle.sizes.proofs.SizeLaws.{Ranged}
 use Rattle.sizes.proofs.PlaceLaws.{node-of}
 use Rattle.archive.specs.Layout.{sizesOf, markAt, badArchive}
 use Rattle.archive.specs.Lose.{lost}
-use Rattle.archive.specs.Calls.{archiveAnswers, archiveRun}
+use Rattle.archive.specs.Calls.{archiveAnswers, archiveRun, allDone}
 use Rattle.archive.specs.Read.{rowIn, Blind, ReadFor, ReadAllows}
 use Rattle.archive.specs.Losses.{nodesIn, SetOf, remains, Hurts, Stands, LossesAllows}
 use Rattle.archive.proofs.GoodArchiveLaws.{good-sizes}
 use Rattle.archive.proofs.ReadLaws.{blind-same}
 use Rattle.archive.proofs.SetLaws.{nodes-hold, nodes-low}
 use Rattle.archive.proofs.LostLaws.{Left, left-none, left-more, lose-done, after-lose, lost-good, lost-sizes}
-use Rattle.promise.specs.Losing.{loses, allDone, LossesAreReads}
+use Rattle.promise.specs.Losing.{loses, LossesAreReads}
 
 -- a call of Lose for each node: all are done, and what is left
 lose-run : (z : Sizes) (s : List ℕ) → badArchive s ≡ false → z ≡ sizesOf s → (nodes : List ℕ) → ((j : ℕ) → j < length nodes → at nodes j < z .nodes)
-    → (archiveAnswers s (loses nodes) ≡ allDone nodes) × Left z s nodes (archiveRun s (loses nodes))
+    → (archiveAnswers s (loses nodes) ≡ allDone (loses nodes)) × Left z s nodes (archiveRun s (loses nodes))
 lose-run z s good read [] low = (refl, left-none z s good read)
 lose-run z s good read (node ∷ nodes) low =
     let there : node < z .nodes = low 0 (omega arith) in
@@ -51,7 +51,7 @@ module _ (s lent sets : List ℕ) (k count set : ℕ) (w : LossesAllows s k lent
   good : badArchive s ≡ false
   good = accepted _ _ _ (w .0) .0
 
-  run : (archiveAnswers s (loses (nodesIn set)) ≡ allDone (nodesIn set)) × Left z s (nodesIn set) t
+  run : (archiveAnswers s (loses (nodesIn set)) ≡ allDone (loses (nodesIn set))) × Left z s (nodesIn set) t
   run = lose-run z s good refl (nodesIn set) (nodes-low (z .nodes) set (of .0))
 
   left : Left z s (nodesIn set) t

@@ -4,6 +4,7 @@ pub mod Demand3
 pub mod Companions
 pub mod Plans
 pub mod Losing
+pub mod Fresh
 pub mod Life
 pub mod Worked
 pub mod SmallCases

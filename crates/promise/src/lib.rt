@@ -7,10 +7,21 @@ ghost use Rattle.promise.specs.Hollow.{Hollow};
 ghost use Rattle.promise.specs.Companions.{Unmasking, ReadIsFixed, InventoryLists};
 ghost use Rattle.promise.specs.Plans.{PlanIsFixed, PlannedRepair, NoThetas, PlanReadsRows};
 ghost use Rattle.promise.specs.Losing.{LossesAreFixed, LossesAreReads};
+ghost use Rattle.promise.specs.Fresh.{RebuiltIsFresh, TableFixesBytes};
 
 // Demand 3: a single claim about every list of Encode, Lose and Repair calls.
 pub fn demand3()
     ensures { λ _. ⌜ Demand3 ⌝ }
+{}
+
+// A rebuilt archive is a fresh one: after every list of calls it has the bytes of a new archive with the table's rows encoded.
+pub fn rebuilt_is_fresh()
+    ensures { λ _. ⌜ RebuiltIsFresh ⌝ }
+{}
+
+// Whatever calls led to it, one table has one archive.
+pub fn table_fixes_bytes()
+    ensures { λ _. ⌜ TableFixesBytes ⌝ }
 {}
 
 // Unmasking gives the block that was masked, for every archive.
