@@ -12,7 +12,9 @@
 
    The bytes of an archive: 4 of packed sizes (the layout in 4 bits, n in 11, m in 5, places in 4, nodes in 3; then under layout 2 the tags in 4
    and a zero bit, under layout 1, which has one tag, five zero bits), the id from byte 4, 48 fill marks from byte 12 (that of node b, place p is
-   bit b*places+p, from the top), then from byte 18 on nodes*places records of n+m+tags bytes: n data elements, the row of m, the tags. */
+   bit b*places+p, from the top), then from byte 18 on nodes*places records of n+m+tags bytes: n data elements, the row of m, the tags. Where
+   span_open made it, and span_encode (always with the same file, padding and tag key, one that span_setup accepts), span_lose and span_repair alone
+   changed it, every byte is the one that span_open and a span_encode of each stored row would write; records of empty places are zero. */
 #ifndef SPAN_ARCHIVE_H
 #define SPAN_ARCHIVE_H
 

@@ -1,6 +1,7 @@
 /* Losses through the exported function, with guards around each buffer: worked lists, refusals, and archives drawn at many sizes, on copies of
    which each set is lost and the rest is read. Ends with status 0 where all are as expected. */
 #include "../include/span_archive.h"
+#include "drawn.h"
 #include "expect.h"
 
 enum { N = 3, SETS = SPAN_LOSSES_BYTES, NODES = 6, PLACES = 8, M = 16, MOST = SPAN_ARCHIVE_BYTES(N, M, PLACES, NODES, 10), DRAWN = 400 };
@@ -103,11 +104,6 @@ static size_t losses_from(const struct archive *a, size_t from, size_t k, unsign
     if (!k && unreadable(a, set)) sets[number++] = (uint8_t)set;
     for (size_t node = from; k && node + k <= a->nodes; node++) number = losses_from(a, node + 1, k - 1, set | 1u << node, sets, number);
     return number;
-}
-
-static unsigned drawn(unsigned below) {
-    static unsigned state = 1;
-    return ((state = state * 1664525 + 1013904223) >> 16) % below;
 }
 
 /* An archive of any sizes, most of its places filled, with about three places an element. Rows have one or two elements that are not zero, so

@@ -1,17 +1,16 @@
 -- A rebuilt archive is a fresh one. Assumes nothing.
 use Prim.Native.Nat.{ℕ, zero, suc, _+_, _/_, _%_, _<_, _≤_}
 use mathlib.Core.Path.{_≡_, refl, sym, ap, ap₂, _∙_, subst}
-use mathlib.Core.List.{List, [], _∷_}
+use mathlib.Core.List.{List, _∷_}
 use mathlib.Core.Logic.{⊎-elim}
 use native.Mathlib.Nat.{div-add-mod'}
 use native.Mathlib.Omega.{arith}
-use lib.Dec.{ltb}
 use lib.ListN.{length}
 use borrow.Author.Tests.{le-ltb, lt-leb, eq-eqb}
 use Rattle.lists.specs.Lists.{over, anyOf}
 use Rattle.lists.proofs.TabLaws.{order}
 use Rattle.lists.proofs.OverLaws.{over-within, over-below, over-above}
-use Rattle.lists.proofs.AnyLaws.{none-at, pick-same}
+use Rattle.lists.proofs.AnyLaws.{none-at}
 use Rattle.answer.specs.declared.Outcome.the-variants.{Done}
 use Rattle.answer.specs.Refusals.{refuse}
 use Rattle.answer.proofs.RefusalLaws.{accepted, same, after-done}
@@ -20,15 +19,15 @@ use Rattle.sizes.specs.Lengths.{placeCount, archiveLength, placeNumber}
 use Rattle.sizes.proofs.SizeLaws.{Ranged}
 use Rattle.sizes.proofs.PlaceLaws.{number-low, node-of, place-of}
 use Rattle.archive.specs.Open.{openAnswer}
-use Rattle.archive.specs.Calls.{Call, encode, answerFor, allDone}
+use Rattle.archive.specs.Calls.{Call, encode, answerFor, archiveAnswers, archiveRun, allDone}
 use Rattle.archive.proofs.LayoutLaws.{archive-same}
 use Rattle.promise.specs.Table.{Place, empty, filled, Table, allEmpty, isFilled, numbered, tableAnswer, tableAfter, tableAnswers, tableRun}
 use Rattle.promise.specs.Image.{Setting, placeRecord, image}
 use Rattle.promise.specs.Demand3.{Given, setting, Admitted}
-use Rattle.promise.specs.Fresh.{encodeFirst, freshFrom, freshCalls, RebuiltIsFresh, TableFixesBytes}
-use Rattle.promise.proofs.TableLaws.{numbered-at, numbered-below, numbered-written, Fine, AllFine, run-fine}
+use Rattle.promise.specs.Fresh.{encodeFirst, freshFrom, freshCalls, newArchive, RebuiltIsFresh, TableFixesBytes}
+use Rattle.promise.proofs.TableLaws.{numbered-empty, numbered-at, numbered-below, numbered-written, Fine, AllFine, run-fine}
 use Rattle.promise.proofs.ImageLaws.{Fit}
-use Rattle.promise.proofs.DemandLaws.{fits, keys, from-new}
+use Rattle.promise.proofs.DemandLaws.{fits, keys, from-new, run-is}
 
 -- ---- equal tables, equal bytes
 
@@ -58,7 +57,7 @@ reopens g lent long =
 
 pub table-fixes-bytes : TableFixesBytes
 table-fixes-bytes g calls calls′ a a′ h lent long =
-    from-new g (g .lent) (g .open-done) calls a .1 ∙ image-same (setting g) (fits g) _ _ h ∙ sym (from-new g lent (reopens g lent long) calls′ a′ .1)
+    run-is g calls a ∙ image-same (setting g) (fits g) _ _ h ∙ sym (from-new g lent (reopens g lent long) calls′ a′ .1)
 
 -- ---- the Encodes, one by one
 
@@ -70,7 +69,7 @@ module _ (g : Given) (t : Table) (fine : AllFine (g .z) t) where
   R = fits g .ranged
 
   -- the table when the places below number k have their rows: these are t's, and the others are empty
-  record Sofar (k : ℕ) (u : Table) : Type 0 where
+  record SoFar (k : ℕ) (u : Table) : Type 0 where
     below : (j : ℕ) → j < k → numbered z u j ≡ numbered z t j
     rest : (j : ℕ) → k ≤ j → numbered z u j ≡ empty
 
@@ -80,7 +79,7 @@ module _ (g : Given) (t : Table) (fine : AllFine (g .z) t) where
     answers : tableAnswers z u calls ≡ allDone calls
     ends : (node place : ℕ) → node < z .nodes → place < z .places → tableRun z u calls node place ≡ t node place
 
-  module _ (k : ℕ) (h : k < placeCount z) (u : Table) (w : Sofar k u) where
+  module _ (k : ℕ) (h : k < placeCount z) (u : Table) (w : SoFar k u) where
     abbrev node : ℕ
     node = k / z .places
 
@@ -107,7 +106,7 @@ module _ (g : Given) (t : Table) (fine : AllFine (g .z) t) where
             eq-eqb _ _ (row-fine .0),
             lt-leb (z .nodes) node (node-of z R k h),
             lt-leb (z .places) place (place-of z R k),
-            still-empty
+            still-empty,
           )
 
       -- the table after the call, by number
@@ -117,8 +116,8 @@ module _ (g : Given) (t : Table) (fine : AllFine (g .z) t) where
           ∙ numbered-written z R node place 1 (λ _. filled row) u (node-of z R k h) (omega (arith, place-of z R k)) j
           ∙ ap (λ (x : ℕ). over x 1 (λ _. filled row) (numbered z u) j) (div-add-mod' k (z .places))
 
-      after-sofar : Sofar (k + 1) (tableAfter z u call)
-      after-sofar =
+      after-so-far : SoFar (k + 1) (tableAfter z u call)
+      after-so-far =
           record {
             below = λ j l.
                 ⊎-elim
@@ -131,7 +130,7 @@ module _ (g : Given) (t : Table) (fine : AllFine (g .z) t) where
           }
 
     -- the calls for place number k and those behind it
-    fill-place : (calls : List Call) → ((v : Table) → Sofar (k + 1) v → Fills v calls) → (held : Place) → t node place ≡ held
+    fill-place : (calls : List Call) → ((v : Table) → SoFar (k + 1) v → Fills v calls) → (held : Place) → t node place ≡ held
         → Fills u (encodeFirst (setting g) node place held calls)
     fill-place calls behind empty e =
         behind u
@@ -144,14 +143,14 @@ module _ (g : Given) (t : Table) (fine : AllFine (g .z) t) where
           rest = λ j l. w .rest j (omega arith);
         })
     fill-place calls behind (filled row) e =
-        let after = behind (tableAfter z u (call row e)) (after-sofar row e) in
+        let after = behind (tableAfter z u (call row e)) (after-so-far row e) in
         record {
           admitted = (λ _. (refl, refl, refl, row-fine row e .1), after .admitted);
           answers = ap₂ _∷_ (call-done row e) (after .answers);
           ends = after .ends;
         }
 
-  fill-from : (count k : ℕ) (u : Table) → k + count ≡ placeCount z → Sofar k u → Fills u (freshFrom (setting g) t k count)
+  fill-from : (count k : ℕ) (u : Table) → k + count ≡ placeCount z → SoFar k u → Fills u (freshFrom (setting g) t k count)
   fill-from zero k u e w =
       record {
         admitted = tt;
@@ -164,19 +163,22 @@ module _ (g : Given) (t : Table) (fine : AllFine (g .z) t) where
       fill-place k (omega arith) u w _ (λ v. fill-from count (k + 1) v (omega arith)) (t (k / z .places) (k % z .places)) refl
 
   fill-all : Fills allEmpty (freshCalls (setting g) t)
-  unfolding numbered
   fill-all =
       fill-from (placeCount z) 0 allEmpty (omega arith)
-      (record { below = λ j l. absurd (omega arith); rest = λ j l. pick-same (ltb j (placeCount z)) empty })
+      (record { below = λ j l. absurd (omega arith); rest = λ j l. numbered-empty z j })
 
 -- ---- the claim
 
+-- a new archive with the rows of any table encoded: every Encode is done, and it is the table's image
+pub encoded-is : (g : Given) (t : Table) → AllFine (g .z) t → (lent : List ℕ) → length lent ≡ archiveLength (g .z)
+    → (archiveAnswers (newArchive g lent) (freshCalls (setting g) t) ≡ allDone (freshCalls (setting g) t))
+    × (archiveRun (newArchive g lent) (freshCalls (setting g) t) ≡ image (setting g) t)
+encoded-is g t fine lent long =
+    let w = fill-all g t fine in
+    let made = from-new g lent (reopens g lent long) (freshCalls (setting g) t) (w .admitted) in
+    (made .0 ∙ w .answers, made .1 ∙ image-same (setting g) (fits g) _ t (w .ends))
+
 pub rebuilt-is-fresh : RebuiltIsFresh
 rebuilt-is-fresh g calls a lent long =
-    let t : Table = tableRun (g .z) allEmpty calls in
-    let w = fill-all g t (run-fine g allEmpty (λ node place. tt) calls a) in
-    record {
-      opens = reopens g lent long;
-      encodes = from-new g lent (reopens g lent long) (freshCalls (setting g) t) (w .admitted) .0 ∙ w .answers;
-      same = table-fixes-bytes g calls (freshCalls (setting g) t) a (w .admitted) (λ node place h hp. sym (w .ends node place h hp)) lent long;
-    }
+    let e = encoded-is g (tableRun (g .z) allEmpty calls) (run-fine g allEmpty (λ node place. tt) calls a) lent long in
+    record { opens = reopens g lent long; encodes = e .0; same = run-is g calls a ∙ sym (e .1) }

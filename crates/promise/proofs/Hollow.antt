@@ -7,6 +7,8 @@ use mathlib.Core.Logic.{⊎-elim, _≢_}
 use native.Mathlib.Omega.{arith}
 use lib.ListN.{length}
 use Rattle.lists.specs.Lists.{at, tab, flat, over, anyOf, anyBelow, howMany}
+use Rattle.lists.proofs.TabLaws.{length-tab}
+use Rattle.lists.proofs.PutLaws.{put-above}
 use Rattle.answer.specs.declared.Outcome.the-variants.{Done, Refused as RefusedOutcome}
 use Rattle.answer.specs.declared.Refusal.the-variants.{Length, BadArchive, Unreadable, ZeroKeyVector, Malformed, ProvesNothing}
 use Rattle.answer.specs.Refusals.{refuse, afterwards, outside}
@@ -24,22 +26,24 @@ use Rattle.audit.specs.declared.Judgement.the-variants.{Rejected, Refused as Re
 use Rattle.audit.specs.Verdict.{namedRow, appended, fails, accepts, verdictFor, judgement, verdictOf}
 use Rattle.sizes.specs.Lengths.{recordLength, placeCount, placeNumber}
 use Rattle.sizes.specs.Sizes.{sizesOutside}
-use Rattle.archive.specs.Layout.{sizesOf, markAt, byteIn}
+use Rattle.archive.specs.Layout.{sizesOf, markAt, byteIn, withMarks}
 use Rattle.archive.specs.Blocks.{source, coded}
-use Rattle.archive.specs.Calls.{answerFor, archiveAnswer, archiveAfter}
+use Rattle.archive.specs.Calls.{lose, answerFor, archiveAnswer, archiveAfter, archiveRun}
 use Rattle.archive.specs.Prove.{namedByte}
 use Rattle.archive.specs.Read.{rowIn, Blind, ReadAllows}
 use Rattle.archive.specs.Inventory.{inventoryBefore, inventoryAnswer, inventoryOut}
 use Rattle.answer.specs.declared.Counted.the-variants.{Count, Refused}
 use Rattle.answer.proofs.RefusalLaws.{counted-done}
-use Rattle.promise.specs.Table.{Place, empty, Table, allEmpty, isFilled, numbered, written, tableRun}
+use Rattle.promise.specs.Table.{Place, empty, filled, Table, allEmpty, isFilled, numbered, written, tableRun}
 use Rattle.promise.specs.Image.{placeRecord}
 use Rattle.promise.specs.Demand3.{setting, Admitted}
+use Rattle.promise.specs.Fresh.{freshCalls}
 use Rattle.promise.specs.Life as L
 use Rattle.promise.specs.Worked as W
 use Rattle.promise.specs.Hollow.{fresh, firstCall, altered, threeAgree, ofZeros, zeroSecond, Hollow}
 use Rattle.promise.proofs.ImageLaws.{image-mark, image-number}
 use Rattle.promise.proofs.DemandLaws.{fits, run-is, demand3}
+use Rattle.promise.proofs.FreshLaws.{rebuilt-is-fresh}
 use Rattle.promise.proofs.Each.{bytes-each}
 use Rattle.promise.proofs.Life.{given, lived}
 
@@ -97,6 +101,10 @@ one-call = (λ e. (refl, refl, refl, bytes-each (0x01 ∷ 0x00 ∷ []) (omega ar
 abbrev after-one : Table
 after-one = tableRun (L.z 1) allEmpty (firstCall ∷ [])
 
+first-filled : after-one 0 0 ≡ filled (0x01 ∷ 0x00 ∷ [])
+unfolding answerFor refuse anyOf afterwards written over
+first-filled = refl
+
 other-empty : (k : ℕ) → 0 < k → k < 6 → numbered (L.z 1) after-one k ≡ empty
 unfolding numbered answerFor refuse anyOf afterwards written over
 other-empty zero h l = absurd (omega arith)
@@ -118,6 +126,34 @@ one-place-only k h l =
 first-answer : archiveAnswer fresh firstCall ≡ Done
 unfolding answerFor refuse anyOf
 first-answer = let e : archiveAnswer fresh firstCall ∷ [] ≡ Done ∷ [] = demand3 given (firstCall ∷ []) one-call .answers in cc
+
+-- ---- its first call, and what that filled lost again
+
+lost-again : Admitted given allEmpty (firstCall ∷ lose 0 ∷ [])
+lost-again = (one-call .0, (λ e. tt, tt))
+
+nothing-left : freshCalls (setting given) (tableRun (L.z 1) allEmpty (firstCall ∷ lose 0 ∷ [])) ≡ []
+unfolding answerFor refuse anyOf afterwards written over
+nothing-left = refl
+
+new-again : archiveRun fresh (firstCall ∷ lose 0 ∷ []) ≡ fresh
+new-again = rebuilt-is-fresh given (firstCall ∷ lose 0 ∷ []) lost-again (L.lent 1) (length-tab _ _) .same ∙ ap (archiveRun fresh) nothing-left
+
+new-byte : at fresh 18 ≡ 0
+unfolding byteIn numbered
+new-byte =
+    ap (λ (s : List ℕ). at s 18) (run-is given [] tt)
+    ∙ image-number (setting given) (fits given) allEmpty 0 0 (omega arith) (omega arith)
+
+first-byte : at (archiveAfter fresh firstCall) 18 ≡ 0x57
+unfolding byteIn coded mixed source sum times xtimes xtime modulus
+first-byte =
+    demand3 given (firstCall ∷ []) one-call .places 0 0 (0x01 ∷ 0x00 ∷ []) (omega arith) (omega arith) first-filled .block 0 (omega arith)
+
+marks-cleared : withMarks (λ k. false) (archiveAfter fresh firstCall) ≢ fresh
+unfolding withMarks
+marks-cleared e =
+    let x : _≡_ {A = ℕ} 0x57 0 = sym first-byte ∙ sym (put-above 6 12 _ _ 18 (omega arith)) ∙ ap (λ (s : List ℕ). at s 18) e ∙ new-byte in omega arith
 
 -- ---- Read and Inventory
 
@@ -163,6 +199,8 @@ hollow =
       accepted = first-answer;
       repaired-bytes = bytes-are;
       one-place = one-place-only;
+      emptied = new-again;
+      unmarked = marks-cleared;
       seen = seen-blind;
       counted = counted-right;
       shelved = λ out h. (

@@ -6,12 +6,10 @@ use mathlib.Core.List.{List}
 use mathlib.Core.Logic.{⊎-elim}
 use native.Mathlib.Nat.{mul-le-mul-right}
 use native.Mathlib.Omega.{arith}
-use lib.Dec.{ltb}
 use lib.ListN.{length}
 use borrow.Author.Tests.{lt-ltb, le-ltb}
 use Rattle.lists.specs.Lists.{at}
 use Rattle.lists.proofs.TabLaws.{order, tab-at}
-use Rattle.lists.proofs.AnyLaws.{pick-same}
 use Rattle.lists.proofs.OverLaws.{over-map, over-same}
 use Rattle.field.specs.Field.{times}
 use Rattle.field.proofs.SumLaws.{sum-same}
@@ -32,7 +30,7 @@ use Rattle.archive.proofs.StoreLaws.{stored-is}
 use Rattle.archive.proofs.BlockLaws.{coded-row}
 use Rattle.promise.specs.Table.{Place, empty, filled, Table, allEmpty, isFilled, element, numbered, repairedRow, written}
 use Rattle.promise.specs.Image.{Setting, vector, placeRecord, image}
-use Rattle.promise.proofs.TableLaws.{numbered-at, numbered-written, Fine, element-lt}
+use Rattle.promise.proofs.TableLaws.{numbered-empty, numbered-at, numbered-written, Fine, element-lt}
 
 -- a setting in range
 pub record Fit (s : Setting) : Type 0 where
@@ -181,7 +179,7 @@ module _ (s : Setting) (vectors : ℕ → ℕ → ℕ) (same : (k e : ℕ) → k
 -- ---- the image of the empty table is what Open writes
 
 pub opened-is : (s : Setting) → opened (s .layout) (s .z) (s .id) ≡ image s allEmpty
-unfolding opened image numbered
+unfolding opened image
 opened-is s =
-    let none : (k : ℕ) → numbered (s .z) allEmpty k ≡ empty = λ k. pick-same (ltb k (placeCount (s .z))) empty in
-    archive-same (s .layout) (s .z) (s .id) _ _ _ _ (λ k h. ap isFilled (sym (none k))) (λ k p h hp. ap (λ (x : Place). placeRecord s x p) (sym (none k)))
+    archive-same (s .layout) (s .z) (s .id) _ _ _ _ (λ k h. ap isFilled (sym (numbered-empty (s .z) k)))
+    (λ k p h hp. ap (λ (x : Place). placeRecord s x p) (sym (numbered-empty (s .z) k)))

@@ -5,6 +5,7 @@ use mathlib.Core.Bool.{true}
 use mathlib.Core.List.{List, [], _∷_}
 use native.Mathlib.Omega.{arith}
 use lib.Dec.{lit≤}
+use lib.ListN.{length}
 use borrow.Author.Tests.{lt-leb}
 use Rattle.lists.specs.Lists.{at, tab, zeroPadded, flat, over, anyOf, anyBelow, howMany, filtered}
 use Rattle.lists.proofs.TabLaws.{length-tab, tab-at}
@@ -19,7 +20,7 @@ use Rattle.keystream.specs.ChaCha.{half, quarterOf, setFour, quarter, quadruple
 use Rattle.keystream.specs.Draws.{byteAt}
 use Rattle.bits.specs.Fields.{bitOf, bitsOf, widths, number, packed, pack}
 use Rattle.sizes.specs.Sizes.{sizesOutside}
-use Rattle.sizes.specs.Lengths.{responseLength}
+use Rattle.sizes.specs.Lengths.{archiveLength, responseLength}
 use Rattle.vector.specs.Vectors.{product, mixed, allZero}
 use Rattle.tag.specs.KeyVector.{F1, keyVector, withTags}
 use Rattle.tag.specs.Vector.{vectorAnswer, vectorOut}
@@ -30,18 +31,20 @@ use Rattle.message.proofs.ResponseLaws.{response-same}
 use Rattle.vector.proofs.VectorLaws.{product-keys}
 use Rattle.message.specs.Challenge.{Challenge, items, challengeBytes, outOfRule, challengeAnswer, challengeOut}
 use Rattle.archive.specs.Layout.{layoutOutside, tagField, archiveOf}
-use Rattle.archive.specs.Open.{openAnswer}
+use Rattle.archive.specs.Open.{openAnswer, openOut}
 use Rattle.archive.specs.Blocks.{source, coded, codedRecord}
-use Rattle.archive.specs.Calls.{answerFor}
+use Rattle.archive.specs.Calls.{Call, answerFor, archiveAnswers, archiveRun, allDone}
 use Rattle.archive.specs.Prove.{responseFor}
 use Rattle.archive.specs.Inventory.{shelf}
 use Rattle.promise.specs.Table.{allEmpty, isFilled, element, numbered, repairedRow, written, tableAnswers}
 use Rattle.promise.specs.Image.{image}
 use Rattle.promise.specs.Demand3.{Given, Admitted, setting, givenAuxiliary, Honest, message, Telling, Silent, namedBlock, expected, tableFilled, Demand}
+use Rattle.promise.specs.Fresh.{freshCalls, Fresh}
 use Rattle.promise.specs.Life as L
 use Rattle.promise.specs.Life.{Numbers, calls, table, archive, Lived}
 use Rattle.promise.proofs.ImageLaws.{recordOver, image-over}
 use Rattle.promise.proofs.DemandLaws.{demand3, run-is}
+use Rattle.promise.proofs.FreshLaws.{rebuilt-is-fresh}
 use Rattle.promise.proofs.Each.{Each, each, bytes-each}
 use Rattle.promise.proofs.LifeLosses.{LossesAre, losses-are}
 
@@ -204,6 +207,19 @@ module _ (w : Numbers) (o : Opens w) (u : SetsUp w) where
   abbrev Elements : Type 0
   Elements = givenAuxiliary lives ≡ w .auxiliaryBytes
 
+  abbrev FreshCalls : Type 0
+  FreshCalls = freshCalls (setting lives) (table (w .tags)) ≡ L.encodes
+
+  -- by the theorem, for the calls that were computed
+  fresh : FreshCalls → Image → (lent : List ℕ) → length lent ≡ archiveLength (L.z (w .tags))
+      → (archiveAnswers (openOut (w .layout) (L.z (w .tags)) L.id lent) L.encodes ≡ Done ∷ Done ∷ Done ∷ Done ∷ [])
+      × (archiveRun (openOut (w .layout) (L.z (w .tags)) L.id lent) L.encodes ≡ w .archiveBytes)
+  fresh calls-are image lent long =
+      let new : List ℕ = openOut (w .layout) (L.z (w .tags)) L.id lent in
+      let e : Fresh lives (calls (w .tags)) lent = rebuilt-is-fresh lives (calls (w .tags)) life-admitted lent long in
+      subst (λ (cs : List Call). (archiveAnswers new cs ≡ allDone cs) × (archiveRun new cs ≡ w .archiveBytes)) calls-are
+      (e .encodes, sym (e .same) ∙ run-is lives (calls (w .tags)) life-admitted ∙ image)
+
   abbrev Expected : Filled w → Type 0
   Expected f = expected lives (table (w .tags)) (archive (w .layout) (w .tags)) (audited f) ≡ w .responseBytes
 
@@ -242,8 +258,8 @@ module _ (w : Numbers) (o : Opens w) (u : SetsUp w) where
           expectedBy : List ℕ → List ℕ
           expectedBy x = responseFor 3 (w .tags) L.id L.maskKey x (audited f .seed) 2 block (λ s. product 5 block (keyVector L.tagKey L.id s))
 
-  life : Answers w → (f : Filled w) → Rows w → Shelf w → Vectors w → Image → Elements → Expected f → LossesAre (w .archiveBytes) → Lived w
-  life answers f rows shelved vectors image elements response losses =
+  life : Answers w → (f : Filled w) → Rows w → Shelf w → Vectors w → Image → FreshCalls → Elements → Expected f → LossesAre (w .archiveBytes) → Lived w
+  life answers f rows shelved vectors image fresh-calls elements response losses =
       let d : Demand lives (calls (w .tags)) (table (w .tags)) (archive (w .layout) (w .tags)) = demand3 lives (calls (w .tags)) life-admitted in
       let sends = d .audits (audited f) .sends ∙ response in
       let telling : Telling lives (table (w .tags)) (archive (w .layout) (w .tags)) (audited f) =
@@ -256,6 +272,8 @@ module _ (w : Numbers) (o : Opens w) (u : SetsUp w) where
         admitted = life-admitted;
         answers = d .answers ∙ answers;
         archive-is = left;
+        fresh-calls = fresh-calls;
+        fresh-is = fresh fresh-calls image;
         inventory-is = λ out e. let i = d .inventory out .0 e in (i .0 ∙ ap Count (shelved .0), i .1 ∙ shelved .1);
         losses-are = subst LossesAre (sym left) losses;
         vectors-are = vectors;
@@ -279,6 +297,11 @@ images-over : ImageOver L.one (opens .0) (sets-up .0) (vectors .0) (lit≤ tt) �
 unfolding archiveOf tagField packed pack bitsOf bitOf widths number flat tab numbered answerFor refuse anyOf anyBelow outside afterwards written over repairedRow codedRecord coded source withTags product mixed sum times xtimes xtime modulus
 images-over = (refl, refl)
 
+-- the calls that a fresh archive takes
+fresh-calls-are : FreshCalls L.one (opens .0) (sets-up .0) × FreshCalls L.three (opens .1) (sets-up .1)
+unfolding answerFor refuse anyOf anyBelow outside afterwards written over repairedRow sum times xtimes xtime modulus tab
+fresh-calls-are = (refl, refl)
+
 elements : Elements L.one (opens .0) (sets-up .0) × Elements L.three (opens .1) (sets-up .1)
 unfolding setupOut afterwards setupAnswer allZero refuse outside anyOf anyBelow auxiliary maskRow F2 product flat tab keyVector F1 byteAt half quarterOf setFour quarter quadruples quartersTo rounds blockWords serialised wordAt start blockOf sum times xtimes xtime modulus
 elements = (refl, refl)
@@ -292,11 +315,11 @@ responses-over = (refl, refl)
 pub lived : Lived L.one × Lived L.three
 lived = (
   life L.one (opens .0) (sets-up .0) (table-answers .0) (all-filled .0) (rows .0) (shelves .0) (vectors .0)
-      (image-of L.one (opens .0) (sets-up .0) (vectors .0) (lit≤ tt) (images-over .0)) (elements .0)
+      (image-of L.one (opens .0) (sets-up .0) (vectors .0) (lit≤ tt) (images-over .0)) (fresh-calls-are .0) (elements .0)
       (expected-of L.one (opens .0) (sets-up .0) (vectors .0) (lit≤ tt) (all-filled .0) (elements .0) (responses-over .0))
       (losses-are .0),
   life L.three (opens .1) (sets-up .1) (table-answers .1) (all-filled .1) (rows .1) (shelves .1) (vectors .1)
-      (image-of L.three (opens .1) (sets-up .1) (vectors .1) (lit≤ tt) (images-over .1)) (elements .1)
+      (image-of L.three (opens .1) (sets-up .1) (vectors .1) (lit≤ tt) (images-over .1)) (fresh-calls-are .1) (elements .1)
       (expected-of L.three (opens .1) (sets-up .1) (vectors .1) (lit≤ tt) (all-filled .1) (elements .1) (responses-over .1))
       (losses-are .1),
 )

@@ -14,7 +14,7 @@ use borrow.Author.Tests.{lt-ltb, le-ltb, eq-eqb, ne-eqb}
 use Rattle.lists.specs.Lists.{pick, at, over, Bytes}
 use Rattle.lists.proofs.TabLaws.{order, length-tab, tab-at}
 use Rattle.lists.proofs.OverLaws.{over-within, over-below, over-above}
-use Rattle.lists.proofs.AnyLaws.{none-at}
+use Rattle.lists.proofs.AnyLaws.{none-at, pick-same}
 use Rattle.answer.specs.declared.Outcome.{Outcome}
 use Rattle.answer.specs.declared.Outcome.the-variants.{Done, Refused}
 use Rattle.answer.specs.Refusals.{afterwards}
@@ -26,10 +26,14 @@ use Rattle.sizes.specs.Lengths.{placeCount, placeNumber}
 use Rattle.archive.specs.Calls.{Call, encode, lose, repair, answerFor}
 use Rattle.sizes.proofs.SizeLaws.{Ranged}
 use Rattle.sizes.proofs.PlaceLaws.{number-low, node-of, place-of}
-use Rattle.promise.specs.Table.{Place, empty, filled, Table, element, numbered, tableAnswer, repairedRow, written, tableEffect, tableAfter, tableRun}
+use Rattle.promise.specs.Table.{Place, empty, filled, Table, allEmpty, element, numbered, tableAnswer, repairedRow, written, tableEffect, tableAfter, tableRun}
 use Rattle.promise.specs.Demand3.{Given, TakesOne, Admitted}
 
 -- ---- places by number
+
+pub numbered-empty : (z : Sizes) (k : ℕ) → numbered z allEmpty k ≡ empty
+unfolding numbered
+numbered-empty z k = pick-same (ltb k (placeCount z)) empty
 
 module _ (z : Sizes) (R : Ranged z) where
   pub numbered-at : (t : Table) (node place : ℕ) → node < z .nodes → place < z .places → numbered z t (placeNumber z node place) ≡ t node place

@@ -26,13 +26,19 @@ freshFrom s t k (suc count) =
 abbrev pub freshCalls : (s : Setting) (t : Table) → List Call
 freshCalls s t = freshFrom s t 0 (placeCount (s .z))
 
--- of a new archive on a lent buffer: Open is done, each of those Encodes is done, and the bytes are then those that the calls left, all of them
+-- those of the rows that a list of calls leaves in the table
+abbrev pub rowsEncoded : (g : Given) (calls : List Call) → List Call
+rowsEncoded g calls = freshCalls (setting g) (tableRun (g .z) allEmpty calls)
+
+-- what Open writes on a lent buffer
+abbrev pub newArchive : (g : Given) (lent : List ℕ) → List ℕ
+newArchive g lent = openOut (g .layout) (g .z) (g .id) lent
+
+-- on a lent buffer Open is done, each of those Encodes is done, and the bytes are then all those that the calls left
 pub record Fresh (g : Given) (calls : List Call) (lent : List ℕ) : Type 0 where
   pub opens : openAnswer (g .layout) (g .z) (g .id) lent ≡ Done
-  pub encodes : archiveAnswers (openOut (g .layout) (g .z) (g .id) lent) (freshCalls (setting g) (tableRun (g .z) allEmpty calls))
-      ≡ allDone (freshCalls (setting g) (tableRun (g .z) allEmpty calls))
-  pub same : archiveRun (openOut (g .layout) (g .z) (g .id) (g .lent)) calls
-      ≡ archiveRun (openOut (g .layout) (g .z) (g .id) lent) (freshCalls (setting g) (tableRun (g .z) allEmpty calls))
+  pub encodes : archiveAnswers (newArchive g lent) (rowsEncoded g calls) ≡ allDone (rowsEncoded g calls)
+  pub same : archiveRun (newArchive g (g .lent)) calls ≡ archiveRun (newArchive g lent) (rowsEncoded g calls)
 
 -- for every list of calls, under the premises of demand 3, and whatever a buffer of the archive's length held
 abbrev pub RebuiltIsFresh : Type 0
@@ -47,4 +53,4 @@ TableFixesBytes =
     → ((node place : ℕ) → node < g .z .nodes → place < g .z .places
     → tableRun (g .z) allEmpty calls node place ≡ tableRun (g .z) allEmpty calls′ node place)
     → (lent : List ℕ) → length lent ≡ archiveLength (g .z)
-    → archiveRun (openOut (g .layout) (g .z) (g .id) (g .lent)) calls ≡ archiveRun (openOut (g .layout) (g .z) (g .id) lent) calls′
+    → archiveRun (newArchive g (g .lent)) calls ≡ archiveRun (newArchive g lent) calls′

@@ -20,9 +20,9 @@ use Rattle.audit.specs.declared.Judgement.{Judgement}
 use Rattle.audit.specs.declared.Judgement.the-variants.{Rejected, Refused as RefusedJudgement}
 use Rattle.audit.specs.Verdict.{namedRow, appended, accepts, verdictOf}
 use Rattle.sizes.specs.Lengths.{recordLength, placeNumber, placeCount}
-use Rattle.archive.specs.Layout.{sizesOf, markAt, byteIn}
+use Rattle.archive.specs.Layout.{sizesOf, markAt, byteIn, withMarks}
 use Rattle.archive.specs.Open.{openOut}
-use Rattle.archive.specs.Calls.{Call, encode, archiveAnswer, archiveAfter}
+use Rattle.archive.specs.Calls.{Call, encode, lose, archiveAnswer, archiveAfter, archiveRun}
 use Rattle.archive.specs.Read.{rowIn, Blind, Enough, ReadAllows}
 use Rattle.archive.specs.Inventory.{inventoryAnswer, inventoryOut}
 use Rattle.answer.specs.declared.Counted.the-variants.{Count, Refused}
@@ -89,13 +89,17 @@ pub record Hollow : Type 0 where
   pub vector-1-found : setupAnswer zeroSecond L.maskKey L.id 3 2 (0 ∷ 0 ∷ 0 ∷ 0 ∷ []) ≡ RefusedOutcome ZeroKeyVector
   -- refusing everything: some call is accepted (`answers`)
   pub accepted : archiveAnswer fresh firstCall ≡ Done
-  -- a Repair that only marks: the place holds these bytes (`places`)
+  -- a Repair that only marks, or keeps a helper's tag: the place holds these bytes, the last of them a tag that no helper had (`places`)
   pub repaired-bytes : tab (recordLength (L.z 1)) (byteIn (L.z 1) (L.archive 1 1) (placeNumber (L.z 1) 2 0))
       ≡ 0x2a ∷ 0xf3 ∷ 0xd5 ∷ 0xf3 ∷ 0xfe ∷ 0xbd ∷ []
   -- an Encode that fills other places too: every other place is as it was (`places`, `marks`)
   pub one-place : (k : ℕ) → 0 < k → k < placeCount (L.z 1)
       → (markAt (archiveAfter fresh firstCall) k ≡ false)
       × ((e : ℕ) → e < recordLength (L.z 1) → byteIn (L.z 1) (archiveAfter fresh firstCall) k e ≡ 0)
+  -- a Lose that clears marks and leaves records: Encode and then Lose leave a new archive, all of its bytes (`RebuiltIsFresh`); without its
+  -- marks alone, what Encode left is none
+  pub emptied : archiveRun fresh (firstCall ∷ lose 0 ∷ []) ≡ fresh
+  pub unmarked : withMarks (λ k. false) (archiveAfter fresh firstCall) ≢ fresh
   -- a Read that does not look: 8 comes with a vector that is orthogonal to every filled row
   pub seen : (s out written : List ℕ) → ReadAllows s out (Refused Unreadable) written → Blind (sizesOf s) (markAt s) (rowIn (sizesOf s) s)
   -- an invented number from Inventory: it is that of the filled places

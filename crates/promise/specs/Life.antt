@@ -19,7 +19,8 @@ use Rattle.archive.specs.Inventory.{inventoryAnswer, inventoryOut}
 use Rattle.archive.specs.Losses.{LossesAllows}
 use Rattle.archive.specs.Calls.{Call, encode, lose, repair, archiveAnswers, archiveRun}
 use Rattle.promise.specs.Table.{Table, allEmpty, tableRun}
-use Rattle.promise.specs.Demand3.{Given, givenAuxiliary, Admitted, Honest, message, sent, says, Telling, Silent}
+use Rattle.promise.specs.Fresh.{freshCalls}
+use Rattle.promise.specs.Demand3.{Given, setting, givenAuxiliary, Admitted, Honest, message, sent, says, Telling, Silent}
 
 abbrev pub z : (tags : ℕ) → Sizes
 z tags = record { n = 3; m = 2; places = 2; nodes = 3; tags = tags }
@@ -66,6 +67,15 @@ calls tags =
     ∷ lose 3
     ∷ repair 2 (0 ∷ 1 ∷ []) 2 gammas thetas (4 * recordLength (z tags))
     ∷ lose 0
+    ∷ []
+
+-- the rows that these calls leave, encoded on a new archive: none for node 0, which is lost, and one of zeros
+abbrev pub encodes : List Call
+encodes =
+    encode 1 0 file padding tagKey (0x53 ∷ 0xca ∷ [])
+    ∷ encode 1 1 file padding tagKey (0x00 ∷ 0x00 ∷ [])
+    ∷ encode 2 0 file padding tagKey (0xf3 ∷ 0xfe ∷ [])
+    ∷ encode 2 1 file padding tagKey (0x72 ∷ 0xfb ∷ [])
     ∷ []
 
 abbrev pub lent : (tags : ℕ) → List ℕ
@@ -153,6 +163,11 @@ pub record Lived (w : Numbers) : Type 0 where
   pub answers : archiveAnswers (openOut (w .layout) (z (w .tags)) id (lent (w .tags))) (calls (w .tags))
       ≡ Done ∷ Refused PlaceFilled ∷ Done ∷ Refused Length ∷ Done ∷ Refused PlaceEmpty ∷ Done ∷ Refused NoSuchPlace ∷ Done ∷ Done ∷ []
   pub archive-is : archive (w .layout) (w .tags) ≡ w .archiveBytes
+  -- the row table's rows, encoded: those four calls; whatever the new archive is lent, they are done and leave the same bytes
+  pub fresh-calls : freshCalls (setting (given (w .layout) (w .tags) opens sets-up file-bytes)) (table (w .tags)) ≡ encodes
+  pub fresh-is : (lent : List ℕ) → length lent ≡ archiveLength (z (w .tags))
+      → (archiveAnswers (openOut (w .layout) (z (w .tags)) id lent) encodes ≡ Done ∷ Done ∷ Done ∷ Done ∷ [])
+      × (archiveRun (openOut (w .layout) (z (w .tags)) id lent) encodes ≡ w .archiveBytes)
   -- whatever Inventory is lent: both places of nodes 1 and 2, in shelf order
   pub inventory-is : (out : List ℕ) → length out ≡ 6
       → (inventoryAnswer (archive (w .layout) (w .tags)) out ≡ Count 4)
