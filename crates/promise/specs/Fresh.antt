@@ -1,4 +1,5 @@
--- A rebuilt archive is a fresh one: what any list of calls leaves has the bytes of a new archive into which the row table's rows were encoded.
+-- A rebuilt archive is a fresh one (SCHEME, Row table): what any list of calls leaves has the bytes of a new archive into which the table's rows
+-- are encoded.
 use Prim.Native.Nat.{ℕ, zero, suc, _+_, _/_, _%_, _<_}
 use mathlib.Core.Path.{_≡_}
 use mathlib.Core.List.{List, [], _∷_}
