@@ -49,7 +49,7 @@ image-same s F t t′ h =
     archive-same (s .layout) (s .z) (s .id) _ _ _ _ (λ k l. ap isFilled (now k)) (λ k p l lp. ap (λ (x : Place). placeRecord s x p) (now k))
 
 -- Open does not look at what it is lent, but for the length
-reopens : (g : Given) (lent : List ℕ) → length lent ≡ archiveLength (g .z) → openAnswer (g .layout) (g .z) (g .id) lent ≡ Done
+pub reopens : (g : Given) (lent : List ℕ) → length lent ≡ archiveLength (g .z) → openAnswer (g .layout) (g .z) (g .id) lent ≡ Done
 unfolding openAnswer
 reopens g lent long =
     let once : length (g .lent) ≡ archiveLength (g .z) = same _ _ (none-at _ 1 (accepted _ _ _ (accepted _ _ _ (g .open-done) .1) .0)) in

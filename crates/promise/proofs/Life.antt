@@ -33,18 +33,18 @@ use Rattle.message.specs.Challenge.{Challenge, items, challengeBytes, outOfRule
 use Rattle.archive.specs.Layout.{layoutOutside, tagField, archiveOf}
 use Rattle.archive.specs.Open.{openAnswer, openOut}
 use Rattle.archive.specs.Blocks.{source, coded, codedRecord}
-use Rattle.archive.specs.Calls.{Call, answerFor, archiveAnswers, archiveRun, allDone}
+use Rattle.archive.specs.Calls.{answerFor, archiveAnswers, archiveRun}
 use Rattle.archive.specs.Prove.{responseFor}
 use Rattle.archive.specs.Inventory.{shelf}
-use Rattle.promise.specs.Table.{allEmpty, isFilled, element, numbered, repairedRow, written, tableAnswers}
+use Rattle.promise.specs.Table.{Table, allEmpty, isFilled, element, numbered, repairedRow, written, tableAnswers, tableRun}
 use Rattle.promise.specs.Image.{image}
 use Rattle.promise.specs.Demand3.{Given, Admitted, setting, givenAuxiliary, Honest, message, Telling, Silent, namedBlock, expected, tableFilled, Demand}
-use Rattle.promise.specs.Fresh.{freshCalls, Fresh}
+use Rattle.promise.specs.Fresh.{freshCalls}
 use Rattle.promise.specs.Life as L
 use Rattle.promise.specs.Life.{Numbers, calls, table, archive, Lived}
 use Rattle.promise.proofs.ImageLaws.{recordOver, image-over}
-use Rattle.promise.proofs.DemandLaws.{demand3, run-is}
-use Rattle.promise.proofs.FreshLaws.{rebuilt-is-fresh}
+use Rattle.promise.proofs.DemandLaws.{demand3, from-new, run-is}
+use Rattle.promise.proofs.FreshLaws.{reopens}
 use Rattle.promise.proofs.Each.{Each, each, bytes-each}
 use Rattle.promise.proofs.LifeLosses.{LossesAre, losses-are}
 
@@ -69,9 +69,16 @@ Answers w =
     tableAnswers (L.z (w .tags)) allEmpty (calls (w .tags))
     ≡ Done ∷ Refused PlaceFilled ∷ Done ∷ Refused Length ∷ Done ∷ Refused PlaceEmpty ∷ Done ∷ Refused NoSuchPlace ∷ Done ∷ Done ∷ []
 
-table-answers : Answers L.one × Answers L.three
+-- the table after the Encodes of a fresh archive, and their answers
+abbrev freshTable : (tags : ℕ) → Table
+freshTable tags = tableRun (L.z tags) allEmpty L.encodes
+
+abbrev FreshAnswers : Numbers → Type 0
+FreshAnswers w = tableAnswers (L.z (w .tags)) allEmpty L.encodes ≡ Done ∷ Done ∷ Done ∷ Done ∷ []
+
+table-answers : (Answers L.one × FreshAnswers L.one) × (Answers L.three × FreshAnswers L.three)
 unfolding answerFor refuse anyOf anyBelow outside afterwards written over
-table-answers = (refl, refl)
+table-answers = ((refl, refl), (refl, refl))
 
 -- the places of a list are filled
 abbrev AllFilled : ℕ → ℕ → List ℕ → Type 0
@@ -201,8 +208,11 @@ module _ (w : Numbers) (o : Opens w) (u : SetsUp w) where
   messages f = (refl, refl)
 
   -- the image of the table after the calls, Setup's elements and the response: also computed
-  abbrev Image : Type 0
-  Image = image (setting lives) (table (w .tags)) ≡ w .archiveBytes
+  abbrev Image : Table → Type 0
+  Image t = image (setting lives) t ≡ w .archiveBytes
+
+  abbrev Images : Type 0
+  Images = Image (table (w .tags)) × Image (freshTable (w .tags))
 
   abbrev Elements : Type 0
   Elements = givenAuxiliary lives ≡ w .auxiliaryBytes
@@ -210,15 +220,24 @@ module _ (w : Numbers) (o : Opens w) (u : SetsUp w) where
   abbrev FreshCalls : Type 0
   FreshCalls = freshCalls (setting lives) (table (w .tags)) ≡ L.encodes
 
-  -- by the theorem, for the calls that were computed
-  fresh : FreshCalls → Image → (lent : List ℕ) → length lent ≡ archiveLength (L.z (w .tags))
+  encodes-admitted : Admitted lives allEmpty L.encodes
+  encodes-admitted = (
+    λ e. (refl, refl, refl, bytes-each (0x53 ∷ 0xca ∷ []) (omega arith, (omega arith, tt))),
+    (
+      λ e. (refl, refl, refl, bytes-each (0x00 ∷ 0x00 ∷ []) (omega arith, (omega arith, tt))),
+      (
+        λ e. (refl, refl, refl, bytes-each (0xf3 ∷ 0xfe ∷ []) (omega arith, (omega arith, tt))),
+        (λ e. (refl, refl, refl, bytes-each (0x72 ∷ 0xfb ∷ []) (omega arith, (omega arith, tt))), tt),
+      ),
+    ),
+  )
+
+  -- the fresh archive from its own table, not by way of the life's
+  fresh : FreshAnswers w → Image (freshTable (w .tags)) → (lent : List ℕ) → length lent ≡ archiveLength (L.z (w .tags))
       → (archiveAnswers (openOut (w .layout) (L.z (w .tags)) L.id lent) L.encodes ≡ Done ∷ Done ∷ Done ∷ Done ∷ [])
       × (archiveRun (openOut (w .layout) (L.z (w .tags)) L.id lent) L.encodes ≡ w .archiveBytes)
-  fresh calls-are image lent long =
-      let new : List ℕ = openOut (w .layout) (L.z (w .tags)) L.id lent in
-      let e : Fresh lives (calls (w .tags)) lent = rebuilt-is-fresh lives (calls (w .tags)) life-admitted lent long in
-      subst (λ (cs : List Call). (archiveAnswers new cs ≡ allDone cs) × (archiveRun new cs ≡ w .archiveBytes)) calls-are
-      (e .encodes, sym (e .same) ∙ run-is lives (calls (w .tags)) life-admitted ∙ image)
+  fresh answers image lent long =
+      let made = from-new lives lent (reopens lives lent long) L.encodes encodes-admitted in (made .0 ∙ answers, made .1 ∙ image)
 
   abbrev Expected : Filled w → Type 0
   Expected f = expected lives (table (w .tags)) (archive (w .layout) (w .tags)) (audited f) ≡ w .responseBytes
@@ -228,14 +247,21 @@ module _ (w : Numbers) (o : Opens w) (u : SetsUp w) where
     vector-same k e h he =
         sym (vector-element k e (omega arith) he) ∙ sym (flat-at (w .tags) 5 _ k e h he) ∙ ap (λ (x : List ℕ). at x (k * 5 + e)) v
 
-    abbrev ImageOver : Type 0
-    ImageOver =
-        archiveOf (w .layout) (L.z (w .tags)) L.id (λ k. isFilled (numbered (L.z (w .tags)) (table (w .tags)) k))
-        (λ k. recordOver (setting lives) (λ s e. at (w .vectorBytes) (s * 5 + e)) vector-same (numbered (L.z (w .tags)) (table (w .tags)) k))
+    abbrev ImageOver : Table → Type 0
+    ImageOver t =
+        archiveOf (w .layout) (L.z (w .tags)) L.id (λ k. isFilled (numbered (L.z (w .tags)) t k))
+        (λ k. recordOver (setting lives) (λ s e. at (w .vectorBytes) (s * 5 + e)) vector-same (numbered (L.z (w .tags)) t k))
         ≡ w .archiveBytes
 
-    image-of : ImageOver → Image
-    image-of e = image-over (setting lives) (λ s e. at (w .vectorBytes) (s * 5 + e)) vector-same (table (w .tags)) ∙ e
+    -- of the table after the calls, and of that after the Encodes alone
+    abbrev ImagesOver : Type 0
+    ImagesOver = ImageOver (table (w .tags)) × ImageOver (freshTable (w .tags))
+
+    image-of : (t : Table) → ImageOver t → Image t
+    image-of t e = image-over (setting lives) (λ s e. at (w .vectorBytes) (s * 5 + e)) vector-same t ∙ e
+
+    images-of : ImagesOver → Images
+    images-of e = (image-of (table (w .tags)) (e .0), image-of (freshTable (w .tags)) (e .1))
 
     module _ (f : Filled w) where
       abbrev block : ℕ → ℕ
@@ -258,22 +284,22 @@ module _ (w : Numbers) (o : Opens w) (u : SetsUp w) where
           expectedBy : List ℕ → List ℕ
           expectedBy x = responseFor 3 (w .tags) L.id L.maskKey x (audited f .seed) 2 block (λ s. product 5 block (keyVector L.tagKey L.id s))
 
-  life : Answers w → (f : Filled w) → Rows w → Shelf w → Vectors w → Image → FreshCalls → Elements → Expected f → LossesAre (w .archiveBytes) → Lived w
-  life answers f rows shelved vectors image fresh-calls elements response losses =
+  life : Answers w × FreshAnswers w → (f : Filled w) → Rows w → Shelf w → Vectors w → Images → FreshCalls → Elements → Expected f → LossesAre (w .archiveBytes) → Lived w
+  life answers f rows shelved vectors images fresh-calls elements response losses =
       let d : Demand lives (calls (w .tags)) (table (w .tags)) (archive (w .layout) (w .tags)) = demand3 lives (calls (w .tags)) life-admitted in
       let sends = d .audits (audited f) .sends ∙ response in
       let telling : Telling lives (table (w .tags)) (archive (w .layout) (w .tags)) (audited f) =
       record { one = 0; one-there = omega arith; one-not = λ e. let x : _≡_ {A = ℕ} 0xc8 0 = sym (rows .0) ∙ e in omega arith } in
-      let left : archive (w .layout) (w .tags) ≡ w .archiveBytes = run-is lives (calls (w .tags)) life-admitted ∙ image in
+      let left : archive (w .layout) (w .tags) ≡ w .archiveBytes = run-is lives (calls (w .tags)) life-admitted ∙ images .0 in
       record {
         opens = o;
         sets-up = u;
         file-bytes = bytes-each (0x57 ∷ 0x01 ∷ []) (omega arith, (omega arith, tt));
         admitted = life-admitted;
-        answers = d .answers ∙ answers;
+        answers = d .answers ∙ answers .0;
         archive-is = left;
         fresh-calls = fresh-calls;
-        fresh-is = fresh fresh-calls image;
+        fresh-is = fresh (answers .1) (images .1);
         inventory-is = λ out e. let i = d .inventory out .0 e in (i .0 ∙ ap Count (shelved .0), i .1 ∙ shelved .1);
         losses-are = subst LossesAre (sym left) losses;
         vectors-are = vectors;
@@ -293,9 +319,9 @@ abbrev pub given : Given
 given = lives L.one (opens .0) (sets-up .0)
 
 -- the images are computed over the vectors' bytes
-images-over : ImageOver L.one (opens .0) (sets-up .0) (vectors .0) (lit≤ tt) × ImageOver L.three (opens .1) (sets-up .1) (vectors .1) (lit≤ tt)
+images-over : ImagesOver L.one (opens .0) (sets-up .0) (vectors .0) (lit≤ tt) × ImagesOver L.three (opens .1) (sets-up .1) (vectors .1) (lit≤ tt)
 unfolding archiveOf tagField packed pack bitsOf bitOf widths number flat tab numbered answerFor refuse anyOf anyBelow outside afterwards written over repairedRow codedRecord coded source withTags product mixed sum times xtimes xtime modulus
-images-over = (refl, refl)
+images-over = ((refl, refl), (refl, refl))
 
 -- the calls that a fresh archive takes
 fresh-calls-are : FreshCalls L.one (opens .0) (sets-up .0) × FreshCalls L.three (opens .1) (sets-up .1)
@@ -315,11 +341,11 @@ responses-over = (refl, refl)
 pub lived : Lived L.one × Lived L.three
 lived = (
   life L.one (opens .0) (sets-up .0) (table-answers .0) (all-filled .0) (rows .0) (shelves .0) (vectors .0)
-      (image-of L.one (opens .0) (sets-up .0) (vectors .0) (lit≤ tt) (images-over .0)) (fresh-calls-are .0) (elements .0)
+      (images-of L.one (opens .0) (sets-up .0) (vectors .0) (lit≤ tt) (images-over .0)) (fresh-calls-are .0) (elements .0)
       (expected-of L.one (opens .0) (sets-up .0) (vectors .0) (lit≤ tt) (all-filled .0) (elements .0) (responses-over .0))
       (losses-are .0),
   life L.three (opens .1) (sets-up .1) (table-answers .1) (all-filled .1) (rows .1) (shelves .1) (vectors .1)
-      (image-of L.three (opens .1) (sets-up .1) (vectors .1) (lit≤ tt) (images-over .1)) (fresh-calls-are .1) (elements .1)
+      (images-of L.three (opens .1) (sets-up .1) (vectors .1) (lit≤ tt) (images-over .1)) (fresh-calls-are .1) (elements .1)
       (expected-of L.three (opens .1) (sets-up .1) (vectors .1) (lit≤ tt) (all-filled .1) (elements .1) (responses-over .1))
       (losses-are .1),
 )
