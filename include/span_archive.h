@@ -13,8 +13,9 @@
    The bytes of an archive: 4 of packed sizes (the layout in 4 bits, n in 11, m in 5, places in 4, nodes in 3; then under layout 2 the tags in 4
    and a zero bit, under layout 1, which has one tag, five zero bits), the id from byte 4, 48 fill marks from byte 12 (that of node b, place p is
    bit b*places+p, from the top), then from byte 18 on nodes*places records of n+m+tags bytes: n data elements, the row of m, the tags. Where
-   span_open made it, and span_encode (always with the same file, padding and tag key, one that span_setup accepts), span_lose and span_repair alone
-   changed it, every byte is the one that span_open and a span_encode of each stored row would write; records of empty places are zero. */
+   span_open made it, and span_encode (always with the same file, padding and tag key, one that span_setup accepts), span_lose, span_repair and
+   span_gather of shares that were made so alone changed it, every byte is the one that span_open and a span_encode of each stored row would write;
+   records of empty places are zero. */
 #ifndef SPAN_ARCHIVE_H
 #define SPAN_ARCHIVE_H
 
@@ -26,7 +27,7 @@
 #define SPAN_WRONG_SIZE 1      /* a size outside its range: layout 1 or 2, n 3 to 1,024, m 1 to 16, places 1 to 8, nodes 1 to 6, tags 1 to 10
                                   (1 under layout 1), s 0 to 9, k 0 to the number of nodes */
 #define SPAN_WRONG_LENGTH 2    /* a buffer that has not exactly its length */
-#define SPAN_BAD_ARCHIVE 3
+#define SPAN_BAD_ARCHIVE 3     /* in span_gather also a share of another archive */
 #define SPAN_NO_SUCH_PLACE 4   /* nor node */
 #define SPAN_PLACE_EMPTY 5     /* a place that is needed */
 #define SPAN_PLACE_FILLED 6    /* a place that would be filled */
@@ -90,6 +91,21 @@ uint8_t span_encode(uint8_t *archive, size_t archive_len, size_t node, size_t pl
 
 /* Empties a node: its records and marks become zero. Refuses 3, 4. */
 uint8_t span_lose(uint8_t *archive, size_t archive_len, size_t node);
+
+/* Puts one node of a share into an archive where all its places are empty: its marks and all its records, those of empty places too, become the
+   share's, and every other byte stays. A share is any archive that has the same first twelve bytes (layout, sizes, tags, id), for a box the one in
+   which every other node is lost; its other nodes are not looked at, and it is only read. Refuses 3 (either is bad, or they begin differently), 4,
+   6 (any place of the node is filled). */
+uint8_t span_gather(uint8_t *archive, size_t archive_len, const uint8_t *share, size_t share_len, size_t node);
+
+/* Layout, n, m, places, nodes and tags as every operation reads them; under layout 1 there is one tag. The six pointers are distinct. Refuses 3, and
+   then all six numbers are as they were. */
+uint8_t span_sizes(const uint8_t *archive, size_t archive_len, size_t *layout, size_t *n, size_t *m, size_t *places, size_t *nodes,
+                   size_t *tags);
+
+/* The rows that a node holds, places*m bytes, zeros for a place that is not filled whatever its record holds: as span_verdict takes them. It serves
+   an owner who keeps his row table as an archive; an auditor never takes rows from a box. Refuses 3, 2, 4. */
+uint8_t span_rows(const uint8_t *archive, size_t archive_len, size_t node, uint8_t *rows, size_t rows_len);
 
 /* Fills all places of a node from 1 to 5 helpers, a byte each, with q (1 to 8) repair blocks a helper. Gammas and thetas are
    helpers*q*places bytes each, scratch helpers*q*(n+m+tags), which then holds the repair blocks with tags. Refuses 3, 1, 2, 4, 6, 5. */

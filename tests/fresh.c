@@ -1,13 +1,14 @@
-/* A rebuilt archive is a fresh one, through the exported functions: histories of Encode, Lose and Repair are drawn at many sizes in both
-   layouts, refused calls among them, beside a row table in plain C. The archive is compared with a new one into which the table's rows are
-   encoded, in shelf order and backwards. Ends with status 0 where every answer and every byte is the same. */
+/* A rebuilt archive is a fresh one, and so is one that was gathered: through the exported functions, histories of Encode, Lose, Repair and Gather
+   are drawn at many sizes in both layouts, refused calls among them, on two archives of one owner that gather from each other, beside a row table
+   each in plain C. An archive is compared with a new one into which its table's rows are encoded, in shelf order and backwards. Ends with status 0
+   where every answer and every byte is the same. */
 #include "../include/span_archive.h"
 #include "drawn.h"
 #include "expect.h"
 #include "table.h"
 
 enum { MOST_N = 1024, MOST_FILE = MOST_M * (MOST_N - 2), MOST_TAGS = 10 };
-enum { HISTORIES = 2000, LARGE = 10, CALLS = 120 };
+enum { HISTORIES = 2000, LARGE = 10, CALLS = 200 };
 
 /* An archive, its one file, padding and tag key, and the table; how many repairs, one from another, a node's blocks are old. */
 struct life {
@@ -17,8 +18,8 @@ struct life {
 };
 
 /* What the histories met: repairs done, of them from blocks that were themselves repaired, the greatest age; losses of nodes that were not
-   empty; comparisons. */
-static size_t repairs, rebuilt, oldest, emptied, compared;
+   empty; gathers of nodes that were not empty; comparisons. */
+static size_t repairs, rebuilt, oldest, emptied, gathers, compared;
 
 /* ---- a new archive */
 
@@ -99,6 +100,15 @@ static void repair(struct life *h, const struct repair *r) {
     if (oldest <= age) oldest = age + 1;
 }
 
+/* A node from the owner's other archive. */
+static void gather(struct life *h, const struct life *from, size_t node) {
+    unsigned expected = table_gather(&h->table, &from->table, node);
+    answer("gather", expected, span_gather(h->archive, h->len, from->archive, from->len, node));
+    if (expected || !filled_in(&h->table, node)) return;
+    h->age[node] = from->age[node];
+    gathers++;
+}
+
 /* ---- drawn calls: now and then a number or a length is one too many */
 
 static size_t one_more(size_t number) { return number + !drawn(16); }
@@ -132,39 +142,56 @@ static void repair_drawn(struct life *h) {
     repair(h, &r);
 }
 
-/* Every node but node 1 is filled at first; then calls of any kind follow. */
-static void history(struct life *h, size_t calls) {
+/* Every node but node 1. */
+static void fill(struct life *h) {
     for (size_t k = 0; k < h->table.nodes * h->table.places; k++) {
         uint8_t row[MOST_M];
         draw_bytes(row, sizeof row);
         if (k / h->table.places != 1) encode(h, k / h->table.places, k % h->table.places, row, h->table.m);
     }
+}
+
+/* Both archives are filled at first; then calls of any kind follow, on the one or on the other. */
+static void history(struct life both[2], size_t calls) {
+    fill(&both[0]), fill(&both[1]);
     while (calls--) {
-        unsigned kind = drawn(8);
+        unsigned on = drawn(2), kind = drawn(9);
+        struct life *h = &both[on];
         if (kind < 3) encode_drawn(h);
         else if (kind < 5) lose(h, drawn((unsigned)h->table.nodes + 1));
-        else repair_drawn(h);
+        else if (kind < 8) repair_drawn(h);
+        else gather(h, &both[!on], node_with(&h->table, 0));
         if (!drawn(16)) compare(h);
     }
-    compare(h);
+    compare(&both[0]), compare(&both[1]);
+}
+
+/* The second archive of the same owner: another buffer, and calls of its own. */
+static void owned_too(struct life *h, const struct life *first) {
+    memcpy(h, first, sizeof *h);
+    h->archive = open_(h);
 }
 
 /* The first few are of the largest sizes. */
 static void drawn_histories(void) {
-    static struct life h;
+    static struct life both[2];
+    struct life *h = &both[0];
     for (int i = 0; i < HISTORIES; i++) {
         unsigned layout = 1 + drawn(2), n = 3 + drawn(40), m = 1 + drawn(MOST_M), places = 1 + drawn(8), nodes = 1 + drawn(6);
         unsigned tags = 1 + drawn(MOST_TAGS);
         if (i < LARGE) n = MOST_N, m = MOST_M, places = 8, nodes = 6, tags = MOST_TAGS;
-        new_life(&h, layout, n, m, places, nodes, layout == 1 ? 1 : tags);
-        draw_bytes(h.key, 32), draw_bytes(h.file, sizeof h.file), draw_bytes(h.padding, sizeof h.padding);
-        do draw_bytes(h.id, 8);
-        while (!set_up(&h));
-        h.archive = open_(&h);
-        history(&h, drawn(CALLS));
-        give_back("the archive of a history", h.archive, h.len);
+        new_life(h, layout, n, m, places, nodes, layout == 1 ? 1 : tags);
+        draw_bytes(h->key, 32), draw_bytes(h->file, sizeof h->file), draw_bytes(h->padding, sizeof h->padding);
+        do draw_bytes(h->id, 8);
+        while (!set_up(h));
+        h->archive = open_(h);
+        owned_too(&both[1], h);
+        history(both, drawn(CALLS));
+        give_back("the first archive of a history", both[0].archive, h->len);
+        give_back("the second archive of a history", both[1].archive, h->len);
     }
-    expect("histories with losses, repairs, and repairs of repairs", emptied > HISTORIES && repairs > HISTORIES && rebuilt > HISTORIES && oldest > 9);
+    expect("histories with losses, repairs, repairs of repairs, and gathers",
+           emptied > HISTORIES && repairs > HISTORIES && rebuilt > HISTORIES && oldest > 9 && gathers > HISTORIES);
 }
 
 /* ---- the life in numbers */
@@ -210,7 +237,8 @@ int main(void) {
     for (size_t tags = 1; tags <= 3; tags++) life(2, tags);
     drawn_histories();
     if (!failures)
-        printf("rebuilt archives through the C library: fresh ones, byte for byte, %zu times in %d histories with %zu repairs, up to %zu deep\n",
-               compared, HISTORIES, repairs, oldest);
+        printf("rebuilt and gathered archives through the C library: fresh ones, byte for byte, %zu times in %d histories with %zu repairs, up to %zu "
+               "deep, and %zu gathers\n",
+               compared, HISTORIES, repairs, oldest, gathers);
     return failures != 0;
 }

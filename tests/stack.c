@@ -12,7 +12,8 @@ enum { LIMIT = 17 * 1024, PAINT = 0xa5 };
 
 static const uint8_t tag_key[32] = {3}, mask_key[32] = {4}, nonce[12] = {2};
 static struct inputs inputs;
-static uint8_t archive[ARCHIVE(TAGS)], scratch[SCRATCH(TAGS)], message[MESSAGE], response[RESPONSE(TAGS)], out[FILE_LENGTH], count;
+static uint8_t archive[ARCHIVE(TAGS)], share[ARCHIVE(TAGS)], scratch[SCRATCH(TAGS)], message[MESSAGE], response[RESPONSE(TAGS)], out[FILE_LENGTH], count;
+static size_t six[6];
 
 static uint8_t multiply(void) { return span_multiply(2, 3) != 6; }
 static uint8_t inverse(void) { return span_inverse(2) != 0x8d; }
@@ -48,7 +49,13 @@ static uint8_t unmask(void) { return span_unmask(N, TAGS, id, 8, mask_key, 32, r
 static uint8_t inventory(void) { return span_inventory(archive, ARCHIVE(TAGS), out, NODES * PLACES, &count); }
 static uint8_t read_(void) { return span_read(archive, ARCHIVE(TAGS), out, FILE_LENGTH, &count); }
 static uint8_t losses(void) { return span_losses(archive, ARCHIVE(TAGS), NODES / 2, out, SETS, &count); }
-static uint8_t lose(void) { return span_lose(archive, ARCHIVE(TAGS), 0); }
+static uint8_t sizes(void) { return span_sizes(archive, ARCHIVE(TAGS), six, six + 1, six + 2, six + 3, six + 4, six + 5); }
+static uint8_t rows(void) { return span_rows(archive, ARCHIVE(TAGS), 1, out, PLACES * M); }
+static uint8_t lose(void) {
+    memcpy(share, archive, sizeof share);
+    return span_lose(archive, ARCHIVE(TAGS), 0);
+}
+static uint8_t gather(void) { return span_gather(archive, ARCHIVE(TAGS), share, ARCHIVE(TAGS), 0); }
 
 static const struct {
     const char *name;
@@ -57,7 +64,7 @@ static const struct {
                   {"open", open_},        {"setup", setup},         {"encode", encode}, {"plan", plan},
                   {"repair", repair},     {"challenge", challenge}, {"prove", prove},   {"verdict", verdict},
                   {"unmask", unmask},     {"inventory", inventory}, {"read", read_},    {"losses", losses},
-                  {"lose", lose}};
+                  {"sizes", sizes},       {"rows", rows},           {"lose", lose},     {"gather", gather}};
 
 /* Aligned, so that no depth hangs on where the linker puts it. */
 static _Alignas(64) uint8_t stack[1 << 18];

@@ -51,6 +51,16 @@ static inline unsigned table_lose(struct table *t, size_t node) {
     return 0;
 }
 
+/* A node's rows from another table of the same owner. */
+static inline unsigned table_gather(struct table *t, const struct table *from, size_t node) {
+    size_t k = node * t->places;
+    if (node >= t->nodes) return 4;
+    if (filled_in(t, node)) return 6;
+    memcpy(t->filled + k, from->filled + k, t->places);
+    memcpy(t->row[k], from->row[k], t->places * MOST_M);
+    return 0;
+}
+
 static inline unsigned repair_answer(const struct table *t, const struct repair *r) {
     size_t sent = r->count * r->q, missing = r->target >= t->nodes, empty = 0;
     if (r->count < 1 || r->count > 5 || r->q < 1 || r->q > 8) return 1;

@@ -120,9 +120,9 @@ module _ (layout : ℕ) (z : Sizes) (id : List ℕ) (e : length id ≡ 8) (mark 
   unfolding archiveOf
   sized from w h = field-front first (id ++ (packed 6 mark ++ body)) from w (omega (arith, sizes-length layout z))
 
-  layout-back : layout ≤ 2 → layoutOf s ≡ layout
+  pub layout-back : layoutOutside layout (z .tags) ≡ false → layoutOf s ≡ layout
   unfolding layoutOf widths
-  layout-back l = sized 0 4 (omega arith) ∙ pack-field [] (4 wide layout) _ (omega arith)
+  layout-back l = sized 0 4 (omega arith) ∙ pack-field [] (4 wide layout) _ (omega (arith, layout-low layout (z .tags) l))
 
   field-back : Ranged z → fieldAt s 27 4 ≡ tagField layout (z .tags)
   unfolding widths
@@ -148,7 +148,7 @@ module _ (layout : ℕ) (z : Sizes) (id : List ℕ) (e : length id ≡ 8) (mark 
       (sized 20 4 (omega arith) ∙ pack-field ((4 wide layout) ∷ (11 wide z .n) ∷ (5 wide z .m) ∷ []) (4 wide z .places) _ (omega (arith, r .places-high)))
       (sized 24 3 (omega arith)
       ∙ pack-field ((4 wide layout) ∷ (11 wide z .n) ∷ (5 wide z .m) ∷ (4 wide z .places) ∷ []) (3 wide z .nodes) _ (omega (arith, r .nodes-high)))
-      (rw (layout-back (layout-low layout (z .tags) l), field-back r) (tags-back layout (z .tags) l))
+      (rw (layout-back l, field-back r) (tags-back layout (z .tags) l))
 
   -- ---- it is not a bad archive
 
@@ -163,7 +163,7 @@ module _ (layout : ℕ) (z : Sizes) (id : List ℕ) (e : length id ≡ 8) (mark 
   unfolding badFor anyOf
   good l r h =
       rw (
-        layout-back (layout-low layout (z .tags) l),
+        layout-back l,
         l,
         not-sizes-outside z r,
         differs-same (field-back r),

@@ -5,10 +5,12 @@ pub mod BadArchiveLaws
 pub mod MarkLaws
 pub mod OpenLaws
 pub mod StoreLaws
+pub mod PartsLaws
 pub mod CallLaws
 pub mod RepairedLaws
 pub mod LoseLaws
 pub mod LostLaws
+pub mod GatheredLaws
 pub mod BlockLaws
 pub mod ReadLaws
 pub mod SetLaws

@@ -7,11 +7,12 @@ use native.Mathlib.Omega.{arith}
 use lib.Dec.{eqb}
 use lib.ListN.{length}
 use Rattle.lists.specs.Lists.{at, put, over, bit}
-use Rattle.lists.proofs.PutLaws.{put-above, put-at, grid-below}
+use Rattle.lists.proofs.PutLaws.{put-above, put-at, put-again, is-put, grid-below}
 use Rattle.lists.proofs.OverLaws.{over-within, over-below, over-above, over-same}
 use Rattle.bits.specs.Fields.{number, packed, bitAt, fieldAt}
 use Rattle.bits.proofs.NumberLaws.{bit-back, number-low, number-same}
-use Rattle.bits.proofs.PackLaws.{packed-at, packed-bit}
+use Rattle.bits.proofs.PackLaws.{packed-at, packed-bit, packed-same, byte-bits}
+use Rattle.bits.proofs.AppendLaws.{bit-same}
 use Rattle.sizes.specs.declared.Sizes.{Sizes}
 use Rattle.sizes.specs.Lengths.{recordLength, recordStart}
 use Rattle.archive.specs.Layout.{markAt, withMarks, stored}
@@ -70,18 +71,45 @@ pub marks-written : (mark : ℕ → Bool) (s : List ℕ) {t : List ℕ} {j : ℕ
 unfolding withMarks
 marks-written mark s q e = rw q at e
 
--- ---- reading after a store
+-- ---- marks that are written
 
-pub stored-mark : (z : Sizes) (v : Bool) (k count : ℕ) (rec : ℕ → ℕ → ℕ) (s : List ℕ) (i : ℕ) → 18 ≤ length s → i < 48
-    → markAt (stored z v k count rec s) i ≡ newMarks s k count v i
-unfolding stored withMarks markAt bitAt
-stored-mark z v k count rec s i long h =
-    let q : (96 + i) / 8 ≡ 12 + i / 8 = omega arith in
-    let r : (96 + i) % 8 ≡ i % 8 = omega arith in
-    rw (
-      q,
-      r,
-      grid-below count (recordLength z) (recordStart z k) rec (withMarks (newMarks s k count v) s) (12 + i / 8) (omega arith),
-      put-at 6 12 (at (packed 6 (newMarks s k count v))) s (i / 8) (omega arith) (omega arith),
-    )
-    (packed-bit 6 (newMarks s k count v) i (omega arith))
+-- only those there are count
+pub marks-same : (f g : ℕ → Bool) (s : List ℕ) → ((i : ℕ) → i < 48 → f i ≡ g i) → withMarks f s ≡ withMarks g s
+unfolding withMarks
+marks-same f g s h = rw (packed-same 6 f g h)
+
+-- a byte of marks is made of these marks
+pub marks-byte : (s : List ℕ) (j : ℕ) → j < 6 → at s (12 + j) < 256 → at (packed 6 (markAt s)) j ≡ at s (12 + j)
+unfolding markAt
+marks-byte s j h low =
+    packed-at 6 (markAt s) j h
+    ∙ number-same (λ i. markAt s (8 * j + i)) (λ i. bitAt s (8 * (12 + j) + i)) 8 (λ i l. ap (bitAt s) (omega arith))
+    ∙ byte-bits s (12 + j) low
+
+module _ (s : List ℕ) (long : 18 ≤ length s) where
+  pub mark-written : (mark : ℕ → Bool) (i : ℕ) → i < 48 → markAt (withMarks mark s) i ≡ mark i
+  unfolding withMarks markAt bitAt
+  mark-written mark i h =
+      let q : (96 + i) / 8 ≡ 12 + i / 8 = omega arith in
+      let r : (96 + i) % 8 ≡ i % 8 = omega arith in
+      rw (q, r, put-at 6 12 (at (packed 6 mark)) s (i / 8) (omega arith) (omega arith)) (packed-bit 6 mark i (omega arith))
+
+  -- over marks that were written before, and those that are there
+  pub marks-again : (f g : ℕ → Bool) → withMarks f (withMarks g s) ≡ withMarks f s
+  unfolding withMarks
+  marks-again f g = put-again 6 12 _ _ s long
+
+  pub marks-own : ((i : ℕ) → at s i < 256) → s ≡ withMarks (markAt s) s
+  unfolding withMarks
+  marks-own low =
+      is-put 6 12 (at (packed 6 (markAt s))) s s refl long (λ j h. sym (marks-byte s j h (low (12 + j)))) (λ k h. refl) (λ k h. refl)
+
+-- after a store
+pub stored-mark : (z : Sizes) (new : ℕ → Bool) (k count : ℕ) (rec : ℕ → ℕ → ℕ) (s : List ℕ) (i : ℕ) → 18 ≤ length s → i < 48
+    → markAt (stored z new k count rec s) i ≡ over k count new (markAt s) i
+unfolding stored markAt
+stored-mark z new k count rec s i long h =
+    let marked : List ℕ = withMarks (over k count new (markAt s)) s in
+    bit-same (stored z new k count rec s) marked 18 (96 + i) (λ e l. grid-below count (recordLength z) (recordStart z k) rec marked e (omega arith))
+    (omega arith)
+    ∙ mark-written s long (over k count new (markAt s)) i h

@@ -25,12 +25,12 @@ use Rattle.archive.proofs.GoodArchiveLaws.{good-length}
 use Rattle.archive.proofs.StoreLaws.{stored-byte}
 
 -- a byte of a node's record that was stored
-node-byte : (z : Sizes) (v : Bool) (node j p : ℕ) (rec : ℕ → ℕ → ℕ) (s : List ℕ) → length s ≡ archiveLength z → node < z .nodes → j < z .places
-    → p < recordLength z → byteIn z (stored z v (placeNumber z node 0) (z .places) rec s) (placeNumber z node j) p ≡ rec j p
-node-byte z v node j p rec s long h hj hp =
+node-byte : (z : Sizes) (mark : ℕ → Bool) (node j p : ℕ) (rec : ℕ → ℕ → ℕ) (s : List ℕ) → length s ≡ archiveLength z → node < z .nodes → j < z .places
+    → p < recordLength z → byteIn z (stored z mark (placeNumber z node 0) (z .places) rec s) (placeNumber z node j) p ≡ rec j p
+node-byte z mark node j p rec s long h hj hp =
     let from : ℕ = placeNumber z node 0 in
     let here : placeNumber z node j ≡ from + j = omega arith in
-    rw here (stored-byte z v from (z .places) rec s (omega (arith, node-fits z node h)) long (from + j) p hp)
+    rw here (stored-byte z mark from (z .places) rec s (omega (arith, node-fits z node h)) long (from + j) p hp)
     ∙ over-in from (z .places) (λ i. rec i p) (λ i. byteIn z s i p) j hj
 
 pub repaired-rows : RepairedRows

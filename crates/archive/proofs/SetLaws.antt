@@ -10,10 +10,10 @@ use native.Mathlib.Omega.{arith}
 use lib.ListN.{length}
 use lib.Pow.{pow-mono}
 use borrow.Author.Tests.{ltb-true, eq-eqb, ne-eqb}
-use Rattle.lists.specs.Lists.{at}
+use Rattle.lists.specs.Lists.{at, holds}
 use Rattle.lists.proofs.TabLaws.{order}
 use Rattle.lists.proofs.FilterLaws.{length-filtered, filtered-all}
-use Rattle.lists.proofs.HoldLaws.{holds, filtered-holds}
+use Rattle.lists.proofs.HoldLaws.{filtered-holds}
 use Rattle.archive.specs.Losses.{inSet, nodesIn, before}
 
 pub nodes-hold : (set node : ℕ) → node < 8 → holds (nodesIn set) node ≡ inSet set node

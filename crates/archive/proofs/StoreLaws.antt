@@ -1,4 +1,4 @@
--- What is read after a store, and what is stored into an archive makes an archive. Assumes nothing.
+-- What is read after a store. Assumes nothing.
 use Prim.Native.Nat.{ℕ, _+_, _-_, _*_, _<_, _≤_}
 use mathlib.Core.Path.{_≡_, refl, sym, ap, _∙_}
 use mathlib.Core.Bool.{Bool}
@@ -10,13 +10,11 @@ use lib.ListN.{length}
 use Rattle.lists.specs.Lists.{at, over}
 use Rattle.lists.proofs.TabLaws.{order}
 use Rattle.lists.proofs.PutLaws.{length-put, put-below, put-above, put-at, length-grid, grid-below, grid-above, grid-at}
-use Rattle.lists.proofs.OverLaws.{over-within, over-below, over-above, over-map, over-same}
+use Rattle.lists.proofs.OverLaws.{over-within, over-below, over-above}
 use Rattle.bits.specs.Fields.{packed}
-use Rattle.bits.proofs.PackLaws.{packed-same}
 use Rattle.sizes.specs.declared.Sizes.{Sizes}
 use Rattle.sizes.specs.Lengths.{placeCount, recordLength, archiveLength, recordStart}
-use Rattle.archive.specs.Layout.{archiveOf, markAt, byteIn, withMarks, stored}
-use Rattle.archive.proofs.LayoutLaws.{length-archive, archive-front, archive-marks, archive-byte, mark-back, same-bytes}
+use Rattle.archive.specs.Layout.{markAt, byteIn, withMarks, stored}
 
 pub length-marks : (mark : ℕ → Bool) (s : List ℕ) → length (withMarks mark s) ≡ length s
 unfolding withMarks
@@ -24,25 +22,30 @@ length-marks mark s = length-put 6 12 _ s
 
 -- ---- what is read after a store
 
-module _ (z : Sizes) (v : Bool) (k count : ℕ) (rec : ℕ → ℕ → ℕ) (s : List ℕ) where
+module _ (z : Sizes) (new : ℕ → Bool) (k count : ℕ) (rec : ℕ → ℕ → ℕ) (s : List ℕ) where
   -- the archive once its marks are written
   abbrev marked : List ℕ
-  marked = withMarks (over k count (λ j. v) (markAt s)) s
+  marked = withMarks (over k count new (markAt s)) s
 
-  pub length-stored : length (stored z v k count rec s) ≡ length s
+  pub length-stored : length (stored z new k count rec s) ≡ length s
   unfolding stored
   length-stored = length-grid count (recordLength z) (recordStart z k) rec marked ∙ length-marks _ s
 
-  pub stored-front : (i : ℕ) → i < 12 → at (stored z v k count rec s) i ≡ at s i
+  pub stored-front : (i : ℕ) → i < 12 → at (stored z new k count rec s) i ≡ at s i
   unfolding stored withMarks
   stored-front i h = grid-below count (recordLength z) (recordStart z k) rec marked i (omega arith) ∙ put-below 6 12 _ s i h
+
+  pub stored-marks : 18 ≤ length s → (j : ℕ) → j < 6 → at (stored z new k count rec s) (12 + j) ≡ at (packed 6 (over k count new (markAt s))) j
+  unfolding stored withMarks
+  stored-marks long j h =
+      grid-below count (recordLength z) (recordStart z k) rec marked (12 + j) (omega arith) ∙ put-at 6 12 _ s j h (omega arith)
 
   kept : (i p : ℕ) → at marked (recordStart z i + p) ≡ at s (recordStart z i + p)
   unfolding withMarks
   kept i p = put-above 6 12 _ s (recordStart z i + p) (omega arith)
 
   pub stored-byte : k + count ≤ placeCount z → length s ≡ archiveLength z → (i p : ℕ) → p < recordLength z
-      → byteIn z (stored z v k count rec s) i p ≡ over k count (λ j. rec j p) (λ j. byteIn z s j p) i
+      → byteIn z (stored z new k count rec s) i p ≡ over k count (λ j. rec j p) (λ j. byteIn z s j p) i
   unfolding stored byteIn
   stored-byte fits long i p hp =
       let ends : recordStart z k + count * recordLength z ≤ archiveLength z = omega (arith, mul-le-mul-right (recordLength z) fits) in
@@ -55,39 +58,10 @@ module _ (z : Sizes) (v : Bool) (k count : ℕ) (rec : ℕ → ℕ → ℕ) (s :
       (λ (l : i < k + count).
       let q : i ≡ k + (i - k) = omega arith in
       let r : recordStart z i + p ≡ recordStart z k + (i - k) * recordLength z + p = ap (λ (x : ℕ). recordStart z x + p) q ∙ omega arith in
-      rw r (grid-at count (recordLength z) (recordStart z k) rec marked (i - k) p (omega arith) hp (omega (arith, length-marks (over k count (λ j. v) (markAt s)) s)))
+      rw r (grid-at count (recordLength z) (recordStart z k) rec marked (i - k) p (omega arith) hp (omega (arith, length-marks (over k count new (markAt s)) s)))
       ∙ sym (over-within k count _ _ i m l))
       (λ (l : k + count ≤ i).
       grid-above count (recordLength z) (recordStart z k) rec marked (recordStart z i + p) (omega (arith, mul-le-mul-right (recordLength z) l))
       ∙ kept i p ∙ sym (over-above k count _ _ i l))
       (order i (k + count)))
       (order i k)
-
--- ---- into a whole archive
-
-module _ (layout : ℕ) (z : Sizes) (id : List ℕ) (e : length id ≡ 8) (mark : ℕ → Bool) (old : ℕ → ℕ → ℕ) (v : Bool) (k count : ℕ) (rec : ℕ → ℕ → ℕ)
-    (fits : k + count ≤ placeCount z) where
-  abbrev s : List ℕ
-  s = archiveOf layout z id mark old
-
-  mark-stored : (j : ℕ) → j < 6 → at (stored z v k count rec s) (12 + j) ≡ at (packed 6 (over k count (λ j. v) mark)) j
-  unfolding stored withMarks
-  mark-stored j h =
-      grid-below count (recordLength z) (recordStart z k) rec (marked z v k count rec s) (12 + j) (omega arith)
-      ∙ put-at 6 12 _ s j h (omega (arith, length-archive layout z id e mark old))
-      ∙ ap (λ (l : List ℕ). at l j) (packed-same 6 _ _ (λ i l.
-      over-same k count (λ j. v) (λ j. v) (markAt s) mark i (λ j l. refl) (mark-back layout z id e mark old i (omega arith))))
-
-  record-stored : (i p : ℕ) → i < placeCount z → p < recordLength z → at (stored z v k count rec s) (recordStart z i + p) ≡ over k count rec old i p
-  unfolding byteIn
-  record-stored i p h hp =
-      stored-byte z v k count rec s fits (length-archive layout z id e mark old) i p hp
-      ∙ over-same k count (λ j. rec j p) (λ j. rec j p) _ (λ j. old j p) i (λ j l. refl) (archive-byte layout z id e mark old i p h hp)
-      ∙ sym (over-map (λ (f : ℕ → ℕ). f p) k count rec old i)
-
-  pub stored-is : stored z v k count rec (archiveOf layout z id mark old) ≡ archiveOf layout z id (over k count (λ j. v) mark) (over k count rec old)
-  stored-is =
-      same-bytes z (stored z v k count rec s) _ (length-stored z v k count rec s ∙ length-archive layout z id e mark old) (length-archive layout z id e _ _)
-      (λ i h. stored-front z v k count rec s i h ∙ archive-front layout z id e mark old i h ∙ sym (archive-front layout z id e _ _ i h))
-      (λ j h. mark-stored j h ∙ sym (archive-marks layout z id e _ _ j h))
-      (λ i p h hp. record-stored i p h hp ∙ sym (archive-byte layout z id e _ _ i p h hp))

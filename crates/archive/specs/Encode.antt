@@ -32,4 +32,4 @@ encodeFor z filled node place file padding tagKey row =
 -- the place is marked, and its record is the source blocks combined by the row, with their tags under the archive's id
 abbrev pub encoded : (z : Sizes) (id archive : List ℕ) (node place : ℕ) (file padding tagKey row : List ℕ) → List ℕ
 encoded z id archive node place file padding tagKey row =
-    stored z true (placeNumber z node place) 1 (λ j. codedRecord z (keyVector tagKey id) file padding (at row)) archive
+    stored z (λ j. true) (placeNumber z node place) 1 (λ j. codedRecord z (keyVector tagKey id) file padding (at row)) archive

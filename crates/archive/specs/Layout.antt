@@ -90,6 +90,6 @@ badArchive s = badFor (sizesOf s) s
 unfoldable pub withMarks : (mark : ℕ → Bool) (s : List ℕ) → List ℕ
 withMarks mark s = put marksLength marksStart (at (packed marksLength mark)) s
 
--- of the `count` places from number k on, the marks become v, and byte p of the j-th one's record becomes rec j p; all else stays
-unfoldable pub stored : (z : Sizes) (v : Bool) (k count : ℕ) (rec : ℕ → ℕ → ℕ) (s : List ℕ) → List ℕ
-stored z v k count rec s = grid count (recordLength z) (recordStart z k) rec (withMarks (over k count (λ j. v) (markAt s)) s)
+-- of the `count` places from number k on, the j-th one's mark becomes mark j, and byte p of its record rec j p; all else stays
+unfoldable pub stored : (z : Sizes) (mark : ℕ → Bool) (k count : ℕ) (rec : ℕ → ℕ → ℕ) (s : List ℕ) → List ℕ
+stored z mark k count rec s = grid count (recordLength z) (recordStart z k) rec (withMarks (over k count mark (markAt s)) s)

@@ -11,3 +11,5 @@ pub mod Inventory
 pub mod Repaired
 pub mod Plan
 pub mod Losses
+pub mod Gather
+pub mod Told

@@ -17,4 +17,4 @@ loseFor z node = refuse (leb (z .nodes) node) NoSuchPlace Done
 
 -- the node's marks and records become zero
 abbrev pub lost : (z : Sizes) (archive : List ℕ) (node : ℕ) → List ℕ
-lost z archive node = stored z false (placeNumber z node 0) (z .places) (λ j e. 0) archive
+lost z archive node = stored z (λ j. false) (placeNumber z node 0) (z .places) (λ j e. 0) archive

@@ -74,7 +74,7 @@ targetByte z s helpers q gammas thetas k e =
 -- every place of the target is marked, and its record is made of the repair blocks
 abbrev pub repaired : (z : Sizes) (archive : List ℕ) (target : ℕ) (helpers : List ℕ) (q : ℕ) (gammas thetas : List ℕ) → List ℕ
 repaired z archive target helpers q gammas thetas =
-    stored z true (placeNumber z target 0) (z .places) (targetByte z archive helpers q gammas thetas) archive
+    stored z (λ j. true) (placeNumber z target 0) (z .places) (targetByte z archive helpers q gammas thetas) archive
 
 -- what is left in the scratch buffer: the repair blocks, one after another, those of the first helper first
 unfoldable pub scratchMade : (z : Sizes) (s helpers : List ℕ) (q : ℕ) (gammas : List ℕ) → List ℕ

@@ -1,13 +1,14 @@
 // Header and fill marks: sizes, offsets, what is read of an archive and what makes one bad.
 ghost use mathlib.Core.Path.{_≡_};
-ghost use mathlib.Core.Bool.{false};
+ghost use mathlib.Core.Bool.{false, not};
 ghost use Prim.Native.Nat.{_+_, _*_, _<_, _≤_};
 ghost use lib.ListN.{length};
 ghost use lib.Dec.{eqb, leb};
 ghost use Rattle.lists.specs.Lists.{pick, anyBelow};
 ghost use Rattle.sizes.specs.Lengths.{marksStart, headerLength, markCount};
-ghost use Rattle.archive.specs.Layout.{layoutOutside, tagField, sizesOf, idOf, markAt, badArchive};
+ghost use Rattle.archive.specs.Layout.{layoutOutside, tagField, sizesOf, idOf, markAt, filledIn, badArchive};
 ghost use Rattle.bits.specs.Fields.{fieldAt};
+ghost use Rattle.sizes.specs.Sizes.{sizesOutside};
 use sizes::Sizes;
 use sizes::archive_length;
 
@@ -52,6 +53,22 @@ pub fn marked(s: &[u8], k: usize) -> bool
     ensures { λ r. ⌜ r ≡ markAt (now (s .entry)) k ⌝ }
 {
     bits::read_field(s, sizes::FIRST_MARK + k, 1) == 1
+}
+
+// Whether a place of a node is filled; where `filled` is false, whether one is empty.
+pub fn any_place(archive: &[u8], z: Sizes, node: usize, filled: bool) -> bool
+    requires { ⌜ (sizesOutside z ≡ false) × (node < z .nodes) × (headerLength ≤ length (now archive)) ⌝ }
+    ensures { λ r.
+        let archive = now (archive .entry) in
+        ⌜ r ≡ anyBelow (z .places) (λ k. pick filled (filledIn z archive node k) (not (filledIn z archive node k))) ⌝ }
+{
+    let places = z.places;
+    for k in 0..places {
+        if marked(archive, node * places + k) == filled {
+            return true;
+        }
+    }
+    false
 }
 
 // Whether a mark is set that belongs to none of the first `count` places.

@@ -6,6 +6,7 @@ mod marks;
 mod opening;
 
 ghost use Rattle.archive.specs.Repaired.{RepairedRows};
+pub use layout::any_place;
 pub use layout::bad_archive;
 pub use layout::id_in;
 pub use layout::marked;

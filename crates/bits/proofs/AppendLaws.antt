@@ -14,7 +14,7 @@ use Rattle.bits.proofs.NumberLaws.{number-same}
 use Rattle.bits.proofs.PackLaws.{packed-length, packed-bit, packed-same, bits-here, bits-front, bits-rest, bits-past}
 
 -- a bit and a field in the first n bytes of two lists that agree there
-bit-same : (a b : List ℕ) (n k : ℕ) → ((i : ℕ) → i < n → at a i ≡ at b i) → k < 8 * n → bitAt a k ≡ bitAt b k
+pub bit-same : (a b : List ℕ) (n k : ℕ) → ((i : ℕ) → i < n → at a i ≡ at b i) → k < 8 * n → bitAt a k ≡ bitAt b k
 unfolding bitAt
 bit-same a b n k e h = rw (e (k / 8) (omega arith))
 

@@ -1,4 +1,14 @@
 // What the test programs share. One case a paragraph: its label, what is expected, what was got, and whether they are the same.
+mod archives;
+
+pub use archives::Bytes;
+pub use archives::LIVED;
+pub use archives::LIVED_OF_THREE;
+pub use archives::archive_kept;
+pub use archives::changed;
+pub use archives::changed_of_three;
+pub use archives::counted;
+
 const OUT: i32 = 1;
 
 // Of the lives in numbers: the id; the challenge to node 2, places 0 and 1, coefficients 07 and b5; the responses to it, of one tag and

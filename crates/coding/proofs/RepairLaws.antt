@@ -22,27 +22,17 @@ use Rattle.sizes.specs.Lengths.{recordLength, archiveLength, recordStart, place
 use Rattle.archive.specs.Layout.{sizesOf, idOf, markAt, byteIn, badArchive, withMarks, stored}
 use Rattle.archive.specs.Calls.{repair, answerFor, archiveAnswer, effectFor}
 use Rattle.archive.specs.Repair.{repairByte, targetByte, scratchMade}
-use Rattle.sizes.proofs.PlaceLaws.{number-low, count-low, record-fits}
+use Rattle.sizes.proofs.PlaceLaws.{number-low, number-mark, record-fits, node-in}
 use Rattle.archive.proofs.GoodArchiveLaws.{good-sizes, good-length}
 use Rattle.archive.proofs.RepairedLaws.{target-mixed}
 
 -- ---- sizes
 
 module _ (z : Sizes) (R : Ranged z) where
-  pub number-mark : (node place : ℕ) → node < z .nodes → place < z .places → placeNumber z node place < 48
-  number-mark node place h hp = omega (arith, number-low z R node place h hp, count-low z R)
-
-  pub marks-in : (node : ℕ) → node < z .nodes → node * z .places + z .places ≤ 48
-  marks-in node h = omega (arith, mul-le-mul-right (z .places) h, count-low z R)
-
   pub record-in : (node place : ℕ) → node < z .nodes → place < z .places → recordStart z (placeNumber z node place) + recordLength z ≤ archiveLength z
   record-in node place h hp = record-fits z (placeNumber z node place) (number-low z R node place h hp)
 
--- the records of a node
-pub node-in : (z : Sizes) (node : ℕ) → node < z .nodes → recordStart z (node * z .places) + z .places * recordLength z ≤ archiveLength z
-node-in z node h = omega (arith, mul-le-mul-right (z .places * recordLength z) h)
-
--- its first records, one more than k
+-- the first records of a node, one more than k
 pub records-in : (z : Sizes) (node k : ℕ) {len n : ℕ} → len ≡ recordLength z → node < z .nodes → k < z .places → n ≡ archiveLength z
     → recordStart z (node * z .places) + (k + 1) * len ≤ n
 records-in z node k lens h hk long = rw lens (omega (arith, node-in z node h, mul-le-mul-right {m = k + 1} {n = z .places} (recordLength z) (omega arith)))

@@ -4,7 +4,7 @@ ghost use mathlib.Core.Bool.{false, not};
 ghost use Prim.Native.Nat.{ℕ, _+_, _*_, _<_, _≤_};
 ghost use lib.ListN.{length};
 ghost use lib.Dec.{leb};
-ghost use Rattle.lists.specs.Lists.{pick, at, anyBelow, grid};
+ghost use Rattle.lists.specs.Lists.{at, anyBelow, grid};
 ghost use Rattle.answer.specs.Refusals.{Passed};
 ghost use Rattle.sizes.specs.Sizes.{sizesOutside};
 ghost use Rattle.vector.specs.Vectors.{mixed};
@@ -16,8 +16,8 @@ ghost use Rattle.archive.specs.Calls.{archiveAnswer, effectFor, archiveAfter, s
 ghost use Rattle.archive.specs.Repair.{scratchMade};
 use answer::Outcome;
 use answer::Refusal;
+use archive::any_place;
 use archive::bad_archive;
-use archive::marked;
 use archive::set_marks;
 use archive::sizes_in;
 use field::Tables;
@@ -31,22 +31,6 @@ pub fn any_missing(helpers: &[u8], nodes: usize) -> bool
 {
     for i in 0..helpers.len() {
         if nodes <= lists::widen(helpers[i]) {
-            return true;
-        }
-    }
-    false
-}
-
-// Whether a place of a node is filled; where `filled` is false, whether one is empty.
-fn any_place(archive: &[u8], z: Sizes, node: usize, filled: bool) -> bool
-    requires { ⌜ (sizesOutside z ≡ false) × (node < z .nodes) × (headerLength ≤ length (now archive)) ⌝ }
-    ensures { λ r.
-        let archive = now (archive .entry) in
-        ⌜ r ≡ anyBelow (z .places) (λ k. pick filled (filledIn z archive node k) (not (filledIn z archive node k))) ⌝ }
-{
-    let places = z.places;
-    for k in 0..places {
-        if marked(archive, node * places + k) == filled {
             return true;
         }
     }

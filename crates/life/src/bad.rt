@@ -1,10 +1,9 @@
-// Bad archives: each operation on an archive answers 3 and writes nothing.
-use crate::archives::Bytes;
-use crate::archives::changed;
-use crate::archives::changed_of_three;
-use crate::archives::unchanged;
+// Bad archives: each operation on an archive answers 3 and writes nothing (Gather, Sizes and Rows: the program `shares`).
+use cases::Bytes;
 use cases::CHALLENGE;
 use cases::RESPONSE;
+use cases::changed;
+use cases::changed_of_three;
 use cases::counting_key;
 
 fn encode(s: Bytes, len: usize) -> u8 {
@@ -18,14 +17,14 @@ fn encode(s: Bytes, len: usize) -> u8 {
         &counting_key(0),
         &[1, 0],
     );
-    unchanged(s, t);
+    cases::archive_kept(s, t);
     answer::number(answer)
 }
 
 fn lose(s: Bytes, len: usize) -> u8 {
     let mut t = s;
     let answer = archive::lose(&mut t[0..len % 81], 1);
-    unchanged(s, t);
+    cases::archive_kept(s, t);
     answer::number(answer)
 }
 
@@ -41,7 +40,7 @@ fn repair(s: Bytes, len: usize) -> u8 {
         &[3, 4],
         &mut lent[0..6],
     );
-    unchanged(s, t);
+    cases::archive_kept(s, t);
     cases::kept(lent);
     answer::number(answer)
 }

@@ -1,7 +1,6 @@
 // Encode, Lose and Repair with any lengths and numbers, on the archive of the first life; Repair's scratch on that of the second.
-use crate::archives::changed;
-use crate::archives::changed_of_three;
-use crate::archives::unchanged;
+use cases::changed;
+use cases::changed_of_three;
 
 // A refused Encode with buffers of these lengths, each below 65.
 fn encode(
@@ -30,7 +29,7 @@ fn encode(
         &rows[0..row % 65],
     );
     cases::number(label, expected, answer::number(answer) as u64);
-    unchanged(s, t);
+    cases::archive_kept(s, t);
 }
 
 // 2, a length; 4, no such node or place; 6, place filled.
@@ -66,7 +65,7 @@ fn lose(label: &[u8], node: usize) {
     let mut t = s;
     let answer = archive::lose(&mut t[0..54], node);
     cases::number(label, 4, answer::number(answer) as u64);
-    unchanged(s, t);
+    cases::archive_kept(s, t);
 }
 
 fn lose_refused() {
@@ -105,7 +104,7 @@ fn repair(
         &mut lent[0..scratch % 65],
     );
     cases::number(label, expected, answer::number(answer) as u64);
-    unchanged(s, t);
+    cases::archive_kept(s, t);
     cases::kept(lent);
 }
 
@@ -182,7 +181,7 @@ fn scratch_of_three(label: &[u8], scratch: usize) {
         &mut lent[0..scratch % 65],
     );
     cases::number(label, 2, answer::number(answer) as u64);
-    unchanged(s, t);
+    cases::archive_kept(s, t);
     cases::kept(lent);
 }
 

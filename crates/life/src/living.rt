@@ -1,14 +1,14 @@
 // The lives in numbers: every answer, and the archive, the list, the response and the file at their end. An archive is the first `len` of
 // the bytes, below 81.
-use crate::archives::Bytes;
-use crate::archives::LIVED;
-use crate::archives::LIVED_OF_THREE;
-use crate::archives::changed;
-use crate::archives::counted;
+use cases::Bytes;
 use cases::CHALLENGE;
 use cases::ID;
+use cases::LIVED;
+use cases::LIVED_OF_THREE;
 use cases::RESPONSE;
 use cases::RESPONSE_OF_THREE;
+use cases::changed;
+use cases::counted;
 use cases::counting_key;
 
 // The repair blocks that the accepted Repair leaves in its scratch buffer, of one tag and of three.

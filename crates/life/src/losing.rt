@@ -1,10 +1,10 @@
 // Losses: on the archives at the end of the lives, where node 0 is empty, node 1 has one row that is not zero and node 2 two that are
 // independent; on archives of one place a node; and every refusal.
-use crate::archives::Bytes;
-use crate::archives::changed;
-use crate::archives::changed_of_three;
-use crate::archives::counted;
+use cases::Bytes;
 use cases::ID;
+use cases::changed;
+use cases::changed_of_three;
+use cases::counted;
 use cases::counting_key;
 
 // Its sets, then zeros, and their number.

@@ -1,6 +1,5 @@
 // Lives the lives in numbers through the archive's operations, with the worked header and marks, and calls each operation
 // with hostile bytes, lengths and numbers.
-mod archives;
 mod bad;
 mod coding_refused;
 mod living;

@@ -1,6 +1,6 @@
 // Open: the worked header, and calls with any lengths and numbers.
-use crate::archives::counted;
 use cases::ID;
+use cases::counted;
 use cases::counting_key;
 
 // n=3, m=2, M=1, N=3: the header and the length of 36 bytes.

@@ -1,7 +1,7 @@
 // Prove with any lengths and messages, on the archive of the first life in numbers; with any lengths on that of the second.
-use crate::archives::LIVED;
-use crate::archives::LIVED_OF_THREE;
 use cases::CHALLENGE;
+use cases::LIVED;
+use cases::LIVED_OF_THREE;
 
 // A refused Prove with buffers of these lengths, each below 65.
 fn prove_on(

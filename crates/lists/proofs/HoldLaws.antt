@@ -8,13 +8,8 @@ use native.Mathlib.Decide.{ℕ-discrete}
 use native.Mathlib.Omega.{arith}
 use lib.Dec.{eqb}
 use borrow.Author.Tests.{eq-eqb, ne-eqb}
-use Rattle.lists.specs.Lists.{pick, filtered}
+use Rattle.lists.specs.Lists.{pick, filtered, holds}
 use Rattle.lists.proofs.AnyLaws.{pick-same, pick-test}
-
--- a value is one of them
-abbrev pub holds : (xs : List ℕ) (v : ℕ) → Bool
-holds [] v = false
-holds (x ∷ xs) v = pick (eqb v x) true (holds xs v)
 
 holds-append : (xs ys : List ℕ) (v : ℕ) → holds (xs ++ ys) v ≡ pick (holds xs v) true (holds ys v)
 holds-append [] ys v = refl

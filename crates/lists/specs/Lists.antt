@@ -3,7 +3,7 @@ use Prim.Native.Nat.{ℕ, zero, suc, _+_, _-_, _*_, _<_}
 use mathlib.Core.Bool.{Bool, true, false}
 use mathlib.Core.List.{List, [], _∷_, _++_}
 use lib.ListN.{length, getD, set}
-use lib.Dec.{ltb}
+use lib.Dec.{eqb, ltb}
 
 -- a where the test holds, else b
 abbrev pub pick : {A : Type 0} → Bool → A → A → A
@@ -69,6 +69,11 @@ howMany (suc n) p = howMany n p + bit (p n)
 unfoldable pub filtered : (n : ℕ) (p : ℕ → Bool) (f : ℕ → ℕ) → List ℕ
 filtered zero p f = []
 filtered (suc n) p f = filtered n p f ++ pick (p n) (f n ∷ []) []
+
+-- a value is one of them
+abbrev pub holds : (xs : List ℕ) (v : ℕ) → Bool
+holds [] v = false
+holds (x ∷ xs) v = pick (eqb v x) true (holds xs v)
 
 -- every element is a byte
 abbrev pub Bytes : (xs : List ℕ) → Type 0

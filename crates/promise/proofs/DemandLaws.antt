@@ -73,7 +73,7 @@ module _ (g : Given) (t : Table) (node place : ℕ) (row : List ℕ) (h : node <
 
 -- ---- the claim
 
-on-image : (g : Given) (calls : List Call) (t : Table) → AllFine (g .z) t
+pub on-image : (g : Given) (calls : List Call) (t : Table) → AllFine (g .z) t
     → archiveAnswers (openOut (g .layout) (g .z) (g .id) (g .lent)) calls ≡ tableAnswers (g .z) allEmpty calls → Demand g calls t (image (setting g) t)
 on-image g calls t fine answers =
     record {

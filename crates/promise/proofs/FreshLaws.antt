@@ -49,11 +49,13 @@ image-same s F t t′ h =
     archive-same (s .layout) (s .z) (s .id) _ _ _ _ (λ k l. ap isFilled (now k)) (λ k p l lp. ap (λ (x : Place). placeRecord s x p) (now k))
 
 -- Open does not look at what it is lent, but for the length
+pub lent-length : (g : Given) → length (g .lent) ≡ archiveLength (g .z)
+unfolding openAnswer
+lent-length g = same _ _ (none-at _ 1 (accepted _ _ _ (accepted _ _ _ (g .open-done) .1) .0))
+
 pub reopens : (g : Given) (lent : List ℕ) → length lent ≡ archiveLength (g .z) → openAnswer (g .layout) (g .z) (g .id) lent ≡ Done
 unfolding openAnswer
-reopens g lent long =
-    let once : length (g .lent) ≡ archiveLength (g .z) = same _ _ (none-at _ 1 (accepted _ _ _ (accepted _ _ _ (g .open-done) .1) .0)) in
-    rw (long ∙ sym once) (g .open-done)
+reopens g lent long = rw (long ∙ sym (lent-length g)) (g .open-done)
 
 pub table-fixes-bytes : TableFixesBytes
 table-fixes-bytes g calls calls′ a a′ h lent long =
@@ -168,6 +170,10 @@ module _ (g : Given) (t : Table) (fine : AllFine (g .z) t) where
       (record { below = λ j l. absurd (omega arith); rest = λ j l. numbered-empty z j })
 
 -- ---- the claim
+
+-- the Encodes of any table's rows are admitted
+pub fresh-admitted : (g : Given) (t : Table) → AllFine (g .z) t → Admitted g allEmpty (freshCalls (setting g) t)
+fresh-admitted g t fine = fill-all g t fine .admitted
 
 -- a new archive with the rows of any table encoded: every Encode is done, and it is the table's image
 pub encoded-is : (g : Given) (t : Table) → AllFine (g .z) t → (lent : List ℕ) → length lent ≡ archiveLength (g .z)

@@ -6,11 +6,11 @@ use mathlib.Core.List.{List, [], _∷_}
 use mathlib.Core.Logic.{⊎-elim, _≢_}
 use native.Mathlib.Omega.{arith}
 use lib.ListN.{length}
-use Rattle.lists.specs.Lists.{at, tab, flat, over, anyOf, anyBelow, howMany}
+use Rattle.lists.specs.Lists.{at, tab, flat, over, put, grid, anyOf, anyBelow, howMany, filtered}
 use Rattle.lists.proofs.TabLaws.{length-tab}
 use Rattle.lists.proofs.PutLaws.{put-above}
 use Rattle.answer.specs.declared.Outcome.the-variants.{Done, Refused as RefusedOutcome}
-use Rattle.answer.specs.declared.Refusal.the-variants.{Length, BadArchive, Unreadable, ZeroKeyVector, Malformed, ProvesNothing}
+use Rattle.answer.specs.declared.Refusal.the-variants.{Length, BadArchive, PlaceFilled, Unreadable, ZeroKeyVector, Malformed, ProvesNothing}
 use Rattle.answer.specs.Refusals.{refuse, afterwards, outside}
 use Rattle.field.specs.Field.{sum, modulus, xtime, xtimes, times}
 use Rattle.keystream.specs.ChaCha.{half, quarterOf, setFour, quarter, quadruples, quartersTo, rounds, blockWords, serialised, wordAt, start, blockOf}
@@ -26,21 +26,24 @@ use Rattle.audit.specs.declared.Judgement.the-variants.{Rejected, Refused as Re
 use Rattle.audit.specs.Verdict.{namedRow, appended, fails, accepts, verdictFor, judgement, verdictOf}
 use Rattle.sizes.specs.Lengths.{recordLength, placeCount, placeNumber}
 use Rattle.sizes.specs.Sizes.{sizesOutside}
-use Rattle.archive.specs.Layout.{sizesOf, markAt, byteIn, withMarks}
+use Rattle.archive.specs.Layout.{layoutOutside, tagField, layoutOf, sizesOf, markAt, byteIn, badFor, withMarks, stored}
 use Rattle.archive.specs.Blocks.{source, coded}
-use Rattle.archive.specs.Calls.{lose, answerFor, archiveAnswer, archiveAfter, archiveRun}
+use Rattle.archive.specs.Calls.{lose, answerFor, archiveAnswer, effectFor, archiveAfter, archiveRun}
 use Rattle.archive.specs.Prove.{namedByte}
 use Rattle.archive.specs.Read.{rowIn, Blind, ReadAllows}
 use Rattle.archive.specs.Inventory.{inventoryBefore, inventoryAnswer, inventoryOut}
+use Rattle.archive.specs.Gather.{otherArchive, gatherAnswer, gatherAfter}
+use Rattle.archive.specs.Told.{storedRow, rowsAnswer, rowsOut}
 use Rattle.answer.specs.declared.Counted.the-variants.{Count, Refused}
 use Rattle.answer.proofs.RefusalLaws.{counted-done}
 use Rattle.promise.specs.Table.{Place, empty, filled, Table, allEmpty, isFilled, numbered, written, tableRun}
 use Rattle.promise.specs.Image.{placeRecord}
 use Rattle.promise.specs.Demand3.{setting, Admitted}
 use Rattle.promise.specs.Fresh.{freshCalls}
+use Rattle.promise.specs.Shares.{keeping}
 use Rattle.promise.specs.Life as L
 use Rattle.promise.specs.Worked as W
-use Rattle.promise.specs.Hollow.{fresh, firstCall, altered, threeAgree, ofZeros, zeroSecond, Hollow}
+use Rattle.promise.specs.Hollow.{fresh, firstCall, altered, threeAgree, ofZeros, ended, zeroSecond, Hollow}
 use Rattle.promise.proofs.ImageLaws.{image-mark, image-number}
 use Rattle.promise.proofs.DemandLaws.{fits, run-is, demand3}
 use Rattle.promise.proofs.FreshLaws.{rebuilt-is-fresh}
@@ -174,6 +177,17 @@ counted-right s out count e = sym (counted-done (inventoryBefore (sizesOf s) s o
 other-list : (i : ℕ) (list out : List ℕ) → length out ≡ 6 → at (0x08 ∷ 0x09 ∷ 0x10 ∷ 0x11 ∷ 0x00 ∷ 0x00 ∷ []) i ≢ at list i → inventoryOut (L.archive 1 1) out ≢ list
 other-list i list out h differs e = differs (ap (λ (l : List ℕ). at l i) (sym (lived .0 .inventory-is out h .1) ∙ e))
 
+-- ---- shares
+
+gathered : (gatherAnswer (keeping ended []) (put 1 11 (λ i. 0x09) ended) 1 ≡ RefusedOutcome BadArchive) × (gatherAnswer ended ended 2 ≡ RefusedOutcome PlaceFilled)
+    × (gatherAfter (keeping ended []) (put 1 18 (λ i. 0x01) ended) 0 ≡ put 1 18 (λ i. 0x01) (keeping ended []))
+unfolding gatherAnswer gatherAfter otherArchive filtered archiveAfter archiveAnswer effectFor answerFor refuse afterwards anyOf anyBelow outside sizesOutside badFor layoutOutside tagField layoutOf sizesOf fieldAt bitAt number markAt byteIn withMarks stored put grid packed over tab
+gathered = (refl, refl, refl)
+
+no-row : (out : List ℕ) → length out ≡ 4 → rowsOut (put 2 21 (λ i. 0x01) ended) 0 out ≡ 0x00 ∷ 0x00 ∷ 0x00 ∷ 0x00 ∷ []
+unfolding rowsOut rowsAnswer storedRow flat tab put refuse afterwards anyOf anyBelow outside sizesOutside badFor layoutOutside tagField layoutOf sizesOf fieldAt bitAt number markAt
+no-row out e = rw e
+
 pub hollow : Hollow
 unfolding product sum times xtimes xtime modulus appended dataIn namedRow mixed coded source mask maskSum auxiliary flat responseBytes pack packed bitsOf bitOf widths number tab anyBelow fails accepts namedByte byteIn
 hollow =
@@ -201,6 +215,10 @@ hollow =
       one-place = one-place-only;
       emptied = new-again;
       unmarked = marks-cleared;
+      other-id = gathered .0;
+      no-overwriting = gathered .1;
+      empty-too = gathered .2;
+      unmarked-row = no-row;
       seen = seen-blind;
       counted = counted-right;
       shelved = λ out h. (

@@ -18,15 +18,15 @@ use Rattle.tag.specs.KeyVector.{withTags}
 use Rattle.vector.proofs.VectorLaws.{mixed-scale, mixed-sum, mixed-same, mixed-zero, product-keys}
 use Rattle.tag.proofs.TagLaws.{tags-combine}
 use Rattle.sizes.specs.Lengths.{placeCount, blockLength, recordLength, placeNumber}
-use Rattle.archive.specs.Layout.{layoutOutside, archiveOf, sizesOf, idOf, markAt, filledIn, byteIn, badArchive, stored}
+use Rattle.archive.specs.Layout.{layoutOutside, archiveOf, layoutOf, sizesOf, idOf, markAt, filledIn, byteIn, badArchive, stored}
 use Rattle.archive.specs.Open.{opened}
 use Rattle.archive.specs.Blocks.{source, coded, codedRecord}
 use Rattle.archive.specs.Repair.{repairSum, repairByte, targetByte}
 use Rattle.archive.specs.Read.{rowIn}
 use Rattle.sizes.proofs.SizeLaws.{Ranged}
 use Rattle.sizes.proofs.PlaceLaws.{number-low, count-low}
-use Rattle.archive.proofs.LayoutLaws.{id-back, byte-back, mark-back, sizes-back, good-back, archive-same}
-use Rattle.archive.proofs.StoreLaws.{stored-is}
+use Rattle.archive.proofs.LayoutLaws.{archive-front, id-back, byte-back, mark-back, layout-back, sizes-back, good-back, archive-same}
+use Rattle.archive.proofs.PartsLaws.{stored-is}
 use Rattle.archive.proofs.BlockLaws.{coded-row}
 use Rattle.promise.specs.Table.{Place, empty, filled, Table, allEmpty, isFilled, element, numbered, repairedRow, written}
 use Rattle.promise.specs.Image.{Setting, vector, placeRecord, image}
@@ -50,6 +50,10 @@ module _ (s : Setting) (F : Fit s) (t : Table) where
   pub image-sizes : sizesOf (image s t) ≡ s .z
   unfolding image
   image-sizes = sizes-back (s .layout) (s .z) (s .id) (F .id-size) mark rec (F .laid) (F .ranged)
+
+  pub image-layout : layoutOf (image s t) ≡ s .layout
+  unfolding image
+  image-layout = layout-back (s .layout) (s .z) (s .id) (F .id-size) mark rec (F .laid)
 
   pub image-id : idOf (image s t) ≡ s .id
   unfolding image
@@ -80,8 +84,8 @@ module _ (s : Setting) (F : Fit s) (t : Table) where
 
   -- ---- what is stored into the image, and written into the table
 
-  pub image-stored : (v : Bool) (node place count : ℕ) (new : ℕ → Place) (bytes : ℕ → ℕ → ℕ) → node < s .z .nodes → place + count ≤ s .z .places
-      → ((j : ℕ) → j < count → v ≡ isFilled (new j))
+  pub image-stored : (v : ℕ → Bool) (node place count : ℕ) (new : ℕ → Place) (bytes : ℕ → ℕ → ℕ) → node < s .z .nodes → place + count ≤ s .z .places
+      → ((j : ℕ) → j < count → v j ≡ isFilled (new j))
       → ((j e : ℕ) → j < count → e < recordLength (s .z) → bytes j e ≡ placeRecord s (new j) e)
       → stored (s .z) v (placeNumber (s .z) node place) count bytes (image s t) ≡ image s (written node place count new t)
   unfolding image
@@ -90,7 +94,7 @@ module _ (s : Setting) (F : Fit s) (t : Table) where
       let now = numbered-written (s .z) (F .ranged) node place count new t h hp in
       stored-is (s .layout) (s .z) (s .id) (F .id-size) mark rec v K count bytes (omega (arith, mul-le-mul-right (s .z .places) h))
       ∙ archive-same (s .layout) (s .z) (s .id) _ _ _ _
-      (λ k l. over-same K count (λ j. v) (λ j. isFilled (new j)) mark mark k hv refl
+      (λ k l. over-same K count v (λ j. isFilled (new j)) mark mark k hv refl
       ∙ sym (ap isFilled (now k) ∙ over-map isFilled K count new (numbered (s .z) t) k))
       (λ k e l le.
       over-map (λ (f : ℕ → ℕ). f e) K count bytes rec k
@@ -152,6 +156,12 @@ module _ (s : Setting) (F : Fit s) (t : Table) where
   pub image-rows : (k i : ℕ) → Fine (s .z) (numbered (s .z) t k) → k < placeCount (s .z) → i < s .z .m
       → rowIn (s .z) (image s t) k i ≡ element (numbered (s .z) t k) i
   image-rows k i f h hi = image-number k (s .z .n + i) h (omega arith) ∙ record-row (numbered (s .z) t k) f i hi
+
+-- two images have one front
+pub image-front : (s : Setting) → Fit s → (t u : Table) (i : ℕ) → i < 12 → at (image s t) i ≡ at (image s u) i
+unfolding image
+image-front s F t u i h =
+    archive-front (s .layout) (s .z) (s .id) (F .id-size) _ _ i h ∙ sym (archive-front (s .layout) (s .z) (s .id) (F .id-size) _ _ i h)
 
 -- ---- the image over other vectors that are equal as far as it goes
 

@@ -12,10 +12,14 @@ pub mod PlanFixed
 pub mod PlanRepaired
 pub mod PlanRows
 pub mod LossesFixed
+pub mod LoseRunLaws
 pub mod LossesReads
+pub mod WholeLaws
+pub mod GoesOnLaws
 pub mod Each
 pub mod ListedLosses
 pub mod LifeLosses
+pub mod LifeShares
 pub mod Life
 pub mod Worked
 pub mod PlanCases

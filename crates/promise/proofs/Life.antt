@@ -5,7 +5,7 @@ use mathlib.Core.Bool.{true}
 use mathlib.Core.List.{List, [], _∷_}
 use native.Mathlib.Omega.{arith}
 use lib.Dec.{lit≤}
-use lib.ListN.{length}
+use lib.ListN.{length, take, drop}
 use borrow.Author.Tests.{lt-leb}
 use Rattle.lists.specs.Lists.{at, tab, zeroPadded, flat, over, anyOf, anyBelow, howMany, filtered}
 use Rattle.lists.proofs.TabLaws.{length-tab, tab-at}
@@ -33,20 +33,22 @@ use Rattle.message.specs.Challenge.{Challenge, items, challengeBytes, outOfRule
 use Rattle.archive.specs.Layout.{layoutOutside, tagField, archiveOf}
 use Rattle.archive.specs.Open.{openAnswer, openOut}
 use Rattle.archive.specs.Blocks.{source, coded, codedRecord}
-use Rattle.archive.specs.Calls.{answerFor, archiveAnswers, archiveRun}
+use Rattle.archive.specs.Calls.{encode, answerFor, archiveAnswers, archiveRun}
+use Rattle.archive.specs.Gather.{gatherAnswer, gatherAfter}
 use Rattle.archive.specs.Prove.{responseFor}
 use Rattle.archive.specs.Inventory.{shelf}
 use Rattle.promise.specs.Table.{Table, allEmpty, isFilled, element, numbered, repairedRow, written, tableAnswers, tableRun}
 use Rattle.promise.specs.Image.{image}
-use Rattle.promise.specs.Demand3.{Given, Admitted, setting, givenAuxiliary, Honest, message, Telling, Silent, namedBlock, expected, tableFilled, Demand}
+use Rattle.promise.specs.Demand3.{Given, TakesOne, Admitted, setting, givenAuxiliary, Honest, message, Telling, Silent, namedBlock, expected, tableFilled, Demand}
 use Rattle.promise.specs.Fresh.{freshCalls}
 use Rattle.promise.specs.Life as L
-use Rattle.promise.specs.Life.{Numbers, calls, table, archive, Lived}
+use Rattle.promise.specs.Life.{Numbers, calls, table, archive, alone, Shared, Lived}
 use Rattle.promise.proofs.ImageLaws.{recordOver, image-over}
 use Rattle.promise.proofs.DemandLaws.{demand3, from-new, run-is}
 use Rattle.promise.proofs.FreshLaws.{reopens}
 use Rattle.promise.proofs.Each.{Each, each, bytes-each}
 use Rattle.promise.proofs.LifeLosses.{LossesAre, losses-are}
+use Rattle.promise.proofs.LifeShares.{shared, Joined, joined}
 
 -- ---- what is computed, of both lives
 
@@ -69,9 +71,15 @@ Answers w =
     tableAnswers (L.z (w .tags)) allEmpty (calls (w .tags))
     ≡ Done ∷ Refused PlaceFilled ∷ Done ∷ Refused Length ∷ Done ∷ Refused PlaceEmpty ∷ Done ∷ Refused NoSuchPlace ∷ Done ∷ Done ∷ []
 
--- the table after the Encodes of a fresh archive, and their answers
+-- the tables after the Encodes of a fresh archive, after those for node 1 alone, and after those for node 2 alone; the answers of the first
 abbrev freshTable : (tags : ℕ) → Table
 freshTable tags = tableRun (L.z tags) allEmpty L.encodes
+
+abbrev oneTable : (tags : ℕ) → Table
+oneTable tags = tableRun (L.z tags) allEmpty (take 2 L.encodes)
+
+abbrev twoTable : (tags : ℕ) → Table
+twoTable tags = tableRun (L.z tags) allEmpty (drop 2 L.encodes)
 
 abbrev FreshAnswers : Numbers → Type 0
 FreshAnswers w = tableAnswers (L.z (w .tags)) allEmpty L.encodes ≡ Done ∷ Done ∷ Done ∷ Done ∷ []
@@ -208,11 +216,20 @@ module _ (w : Numbers) (o : Opens w) (u : SetsUp w) where
   messages f = (refl, refl)
 
   -- the image of the table after the calls, Setup's elements and the response: also computed
-  abbrev Image : Table → Type 0
-  Image t = image (setting lives) t ≡ w .archiveBytes
+  abbrev Image : Table → List ℕ → Type 0
+  Image t bytes = image (setting lives) t ≡ bytes
+
+  -- what nodes 1 and 2 alone leave
+  abbrev oneBytes : List ℕ
+  oneBytes = alone (w .tags) 0x30 1 (w .archiveBytes)
+
+  abbrev twoBytes : List ℕ
+  twoBytes = alone (w .tags) 0x0c 2 (w .archiveBytes)
 
   abbrev Images : Type 0
-  Images = Image (table (w .tags)) × Image (freshTable (w .tags))
+  Images =
+      Image (table (w .tags)) (w .archiveBytes) × Image (freshTable (w .tags)) (w .archiveBytes) × Image (oneTable (w .tags)) oneBytes
+      × Image (twoTable (w .tags)) twoBytes
 
   abbrev Elements : Type 0
   Elements = givenAuxiliary lives ≡ w .auxiliaryBytes
@@ -220,24 +237,38 @@ module _ (w : Numbers) (o : Opens w) (u : SetsUp w) where
   abbrev FreshCalls : Type 0
   FreshCalls = freshCalls (setting lives) (table (w .tags)) ≡ L.encodes
 
+  -- each of the Encodes takes the one file, and a row of bytes; so any of them are admitted
+  takes : (node place a b : ℕ) → a < 256 → b < 256 → TakesOne lives (encode node place L.file L.padding L.tagKey (a ∷ b ∷ []))
+  takes node place a b la lb = (refl, refl, refl, bytes-each (a ∷ b ∷ []) (la, (lb, tt)))
+
+  one-admitted : Admitted lives allEmpty (take 2 L.encodes)
+  one-admitted = (λ e. takes 1 0 0x53 0xca (omega arith) (omega arith), (λ e. takes 1 1 0x00 0x00 (omega arith) (omega arith), tt))
+
+  two-admitted : (t : Table) → Admitted lives t (drop 2 L.encodes)
+  two-admitted t = (λ e. takes 2 0 0xf3 0xfe (omega arith) (omega arith), (λ e. takes 2 1 0x72 0xfb (omega arith) (omega arith), tt))
+
   encodes-admitted : Admitted lives allEmpty L.encodes
-  encodes-admitted = (
-    λ e. (refl, refl, refl, bytes-each (0x53 ∷ 0xca ∷ []) (omega arith, (omega arith, tt))),
-    (
-      λ e. (refl, refl, refl, bytes-each (0x00 ∷ 0x00 ∷ []) (omega arith, (omega arith, tt))),
-      (
-        λ e. (refl, refl, refl, bytes-each (0xf3 ∷ 0xfe ∷ []) (omega arith, (omega arith, tt))),
-        (λ e. (refl, refl, refl, bytes-each (0x72 ∷ 0xfb ∷ []) (omega arith, (omega arith, tt))), tt),
-      ),
-    ),
-  )
+  encodes-admitted = (one-admitted .0, (one-admitted .1 .0, two-admitted (oneTable (w .tags))))
 
   -- the fresh archive from its own table, not by way of the life's
-  fresh : FreshAnswers w → Image (freshTable (w .tags)) → (lent : List ℕ) → length lent ≡ archiveLength (L.z (w .tags))
+  fresh : FreshAnswers w → Image (freshTable (w .tags)) (w .archiveBytes) → (lent : List ℕ) → length lent ≡ archiveLength (L.z (w .tags))
       → (archiveAnswers (openOut (w .layout) (L.z (w .tags)) L.id lent) L.encodes ≡ Done ∷ Done ∷ Done ∷ Done ∷ [])
       × (archiveRun (openOut (w .layout) (L.z (w .tags)) L.id lent) L.encodes ≡ w .archiveBytes)
   fresh answers image lent long =
       let made = from-new lives lent (reopens lives lent long) L.encodes encodes-admitted in (made .0 ∙ answers, made .1 ∙ image)
+
+  merged : Joined w → Image (oneTable (w .tags)) oneBytes → Image (twoTable (w .tags)) twoBytes
+      → (lent : List ℕ) → length lent ≡ archiveLength (L.z (w .tags))
+      → (gatherAnswer (archiveRun (openOut (w .layout) (L.z (w .tags)) L.id lent) (take 2 L.encodes))
+      (archiveRun (openOut (w .layout) (L.z (w .tags)) L.id lent) (drop 2 L.encodes)) 2 ≡ Done)
+      × (gatherAfter (archiveRun (openOut (w .layout) (L.z (w .tags)) L.id lent) (take 2 L.encodes))
+      (archiveRun (openOut (w .layout) (L.z (w .tags)) L.id lent) (drop 2 L.encodes)) 2 ≡ w .archiveBytes)
+  merged joins first second lent long =
+      rw (
+        from-new lives lent (reopens lives lent long) (take 2 L.encodes) one-admitted .1 ∙ first,
+        from-new lives lent (reopens lives lent long) (drop 2 L.encodes) (two-admitted allEmpty) .1 ∙ second,
+      )
+      joins
 
   abbrev Expected : Filled w → Type 0
   Expected f = expected lives (table (w .tags)) (archive (w .layout) (w .tags)) (audited f) ≡ w .responseBytes
@@ -247,21 +278,23 @@ module _ (w : Numbers) (o : Opens w) (u : SetsUp w) where
     vector-same k e h he =
         sym (vector-element k e (omega arith) he) ∙ sym (flat-at (w .tags) 5 _ k e h he) ∙ ap (λ (x : List ℕ). at x (k * 5 + e)) v
 
-    abbrev ImageOver : Table → Type 0
-    ImageOver t =
+    abbrev ImageOver : Table → List ℕ → Type 0
+    ImageOver t bytes =
         archiveOf (w .layout) (L.z (w .tags)) L.id (λ k. isFilled (numbered (L.z (w .tags)) t k))
         (λ k. recordOver (setting lives) (λ s e. at (w .vectorBytes) (s * 5 + e)) vector-same (numbered (L.z (w .tags)) t k))
-        ≡ w .archiveBytes
+        ≡ bytes
 
-    -- of the table after the calls, and of that after the Encodes alone
+    -- of the table after the calls, of that after the Encodes alone, and of those after the Encodes of one node
     abbrev ImagesOver : Type 0
-    ImagesOver = ImageOver (table (w .tags)) × ImageOver (freshTable (w .tags))
+    ImagesOver =
+        ImageOver (table (w .tags)) (w .archiveBytes) × ImageOver (freshTable (w .tags)) (w .archiveBytes) × ImageOver (oneTable (w .tags)) oneBytes
+        × ImageOver (twoTable (w .tags)) twoBytes
 
-    image-of : (t : Table) → ImageOver t → Image t
-    image-of t e = image-over (setting lives) (λ s e. at (w .vectorBytes) (s * 5 + e)) vector-same t ∙ e
+    image-of : (t : Table) (bytes : List ℕ) → ImageOver t bytes → Image t bytes
+    image-of t bytes e = image-over (setting lives) (λ s e. at (w .vectorBytes) (s * 5 + e)) vector-same t ∙ e
 
     images-of : ImagesOver → Images
-    images-of e = (image-of (table (w .tags)) (e .0), image-of (freshTable (w .tags)) (e .1))
+    images-of e = (image-of _ _ (e .0), image-of _ _ (e .1), image-of _ _ (e .2), image-of _ _ (e .3))
 
     module _ (f : Filled w) where
       abbrev block : ℕ → ℕ
@@ -284,8 +317,9 @@ module _ (w : Numbers) (o : Opens w) (u : SetsUp w) where
           expectedBy : List ℕ → List ℕ
           expectedBy x = responseFor 3 (w .tags) L.id L.maskKey x (audited f .seed) 2 block (λ s. product 5 block (keyVector L.tagKey L.id s))
 
-  life : Answers w × FreshAnswers w → (f : Filled w) → Rows w → Shelf w → Vectors w → Images → FreshCalls → Elements → Expected f → LossesAre (w .archiveBytes) → Lived w
-  life answers f rows shelved vectors images fresh-calls elements response losses =
+  life : Answers w × FreshAnswers w → (f : Filled w) → Rows w → Shelf w → Vectors w → Images → FreshCalls → Elements → Expected f → LossesAre (w .archiveBytes) → Shared w (w .archiveBytes)
+      → Joined w → Lived w
+  life answers f rows shelved vectors images fresh-calls elements response losses shared joins =
       let d : Demand lives (calls (w .tags)) (table (w .tags)) (archive (w .layout) (w .tags)) = demand3 lives (calls (w .tags)) life-admitted in
       let sends = d .audits (audited f) .sends ∙ response in
       let telling : Telling lives (table (w .tags)) (archive (w .layout) (w .tags)) (audited f) =
@@ -300,6 +334,8 @@ module _ (w : Numbers) (o : Opens w) (u : SetsUp w) where
         archive-is = left;
         fresh-calls = fresh-calls;
         fresh-is = fresh (answers .1) (images .1);
+        shared = subst (Shared w) (sym left) shared;
+        merged = merged joins (images .2) (images .3);
         inventory-is = λ out e. let i = d .inventory out .0 e in (i .0 ∙ ap Count (shelved .0), i .1 ∙ shelved .1);
         losses-are = subst LossesAre (sym left) losses;
         vectors-are = vectors;
@@ -321,7 +357,7 @@ given = lives L.one (opens .0) (sets-up .0)
 -- the images are computed over the vectors' bytes
 images-over : ImagesOver L.one (opens .0) (sets-up .0) (vectors .0) (lit≤ tt) × ImagesOver L.three (opens .1) (sets-up .1) (vectors .1) (lit≤ tt)
 unfolding archiveOf tagField packed pack bitsOf bitOf widths number flat tab numbered answerFor refuse anyOf anyBelow outside afterwards written over repairedRow codedRecord coded source withTags product mixed sum times xtimes xtime modulus
-images-over = ((refl, refl), (refl, refl))
+images-over = ((refl, refl, refl, refl), (refl, refl, refl, refl))
 
 -- the calls that a fresh archive takes
 fresh-calls-are : FreshCalls L.one (opens .0) (sets-up .0) × FreshCalls L.three (opens .1) (sets-up .1)
@@ -343,9 +379,9 @@ lived = (
   life L.one (opens .0) (sets-up .0) (table-answers .0) (all-filled .0) (rows .0) (shelves .0) (vectors .0)
       (images-of L.one (opens .0) (sets-up .0) (vectors .0) (lit≤ tt) (images-over .0)) (fresh-calls-are .0) (elements .0)
       (expected-of L.one (opens .0) (sets-up .0) (vectors .0) (lit≤ tt) (all-filled .0) (elements .0) (responses-over .0))
-      (losses-are .0),
+      (losses-are .0) (shared .0) (joined .0),
   life L.three (opens .1) (sets-up .1) (table-answers .1) (all-filled .1) (rows .1) (shelves .1) (vectors .1)
       (images-of L.three (opens .1) (sets-up .1) (vectors .1) (lit≤ tt) (images-over .1)) (fresh-calls-are .1) (elements .1)
       (expected-of L.three (opens .1) (sets-up .1) (vectors .1) (lit≤ tt) (all-filled .1) (elements .1) (responses-over .1))
-      (losses-are .1),
+      (losses-are .1) (shared .1) (joined .1),
 )

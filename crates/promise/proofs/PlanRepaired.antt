@@ -74,7 +74,7 @@ module _ (s helpers : List ℕ) (q : ℕ) (gammas rows lent thetas : List ℕ) (
   unfolding archiveAfter effectFor
   filled k h =
       ap (λ (t : List ℕ). filledIn z t target k) (after-done _ _ done)
-      ∙ stored-mark z true (placeNumber z target 0) (z .places) _ s (placeNumber z target k) (omega (arith, good-length s good))
+      ∙ stored-mark z (λ j. true) (placeNumber z target 0) (z .places) _ s (placeNumber z target k) (omega (arith, good-length s good))
       (omega (arith, number-low z ranged target k there h, count-low z ranged))
       ∙ over-within (placeNumber z target 0) (z .places) _ (markAt s) (placeNumber z target k) (omega arith) (omega arith)
 

@@ -114,7 +114,7 @@ pub element-lt : (z : Sizes) (x : Place) → Fine z x → (i : ℕ) → i < z .m
 element-lt z empty f i h = omega arith
 element-lt z (filled row) f i h = f .1 i (rw (f .0) h)
 
-written-fine : (z : Sizes) (node place count : ℕ) (new : ℕ → Place) (t : Table) → ((j : ℕ) → Fine z (new j)) → AllFine z t
+pub written-fine : (z : Sizes) (node place count : ℕ) (new : ℕ → Place) (t : Table) → ((j : ℕ) → Fine z (new j)) → AllFine z t
     → AllFine z (written node place count new t)
 unfolding written over
 written-fine z node place count new t hn ht b p = go (eqb b node) (ltb p place) (ltb p (place + count))

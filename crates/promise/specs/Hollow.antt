@@ -7,9 +7,9 @@ use mathlib.Core.Bool.{Bool, true, false}
 use mathlib.Core.List.{List, [], _∷_, _++_}
 use lib.Dec.{eqb}
 use lib.ListN.{length}
-use Rattle.lists.specs.Lists.{at, tab, howMany}
+use Rattle.lists.specs.Lists.{at, tab, put, howMany}
 use Rattle.answer.specs.declared.Outcome.the-variants.{Done, Refused as RefusedOutcome}
-use Rattle.answer.specs.declared.Refusal.the-variants.{Unreadable, ZeroKeyVector, Malformed, ProvesNothing}
+use Rattle.answer.specs.declared.Refusal.the-variants.{BadArchive, PlaceFilled, Unreadable, ZeroKeyVector, Malformed, ProvesNothing}
 use Rattle.field.specs.Field.{plus}
 use Rattle.vector.specs.Vectors.{product}
 use Rattle.mask.specs.Masks.{maskRow}
@@ -25,7 +25,10 @@ use Rattle.archive.specs.Open.{openOut}
 use Rattle.archive.specs.Calls.{Call, encode, lose, archiveAnswer, archiveAfter, archiveRun}
 use Rattle.archive.specs.Read.{rowIn, Blind, Enough, ReadAllows}
 use Rattle.archive.specs.Inventory.{inventoryAnswer, inventoryOut}
+use Rattle.archive.specs.Gather.{gatherAnswer, gatherAfter}
+use Rattle.archive.specs.Told.{rowsOut}
 use Rattle.answer.specs.declared.Counted.the-variants.{Count, Refused}
+use Rattle.promise.specs.Shares.{keeping}
 use Rattle.promise.specs.Worked as W
 use Rattle.promise.specs.Life as L
 
@@ -52,6 +55,10 @@ abbrev pub ofZeros : (first : ℕ) (rows coefficients : List ℕ) → Judgement
 ofZeros first rows coefficients =
     verdictOf L.tagKey L.id (L.z 1) rows (challengeBytes (challengeFor 2 (0 ∷ 1 ∷ []) coefficients))
     (first ∷ tab 16 (λ i. 0))
+
+-- the archive in which the life ended
+abbrev pub ended : List ℕ
+ended = L.one .archiveBytes
 
 -- a tag key of which vector 1 alone starts with zero
 abbrev pub zeroSecond : List ℕ
@@ -100,6 +107,14 @@ pub record Hollow : Type 0 where
   -- marks alone, what Encode left is none
   pub emptied : archiveRun fresh (firstCall ∷ lose 0 ∷ []) ≡ fresh
   pub unmarked : withMarks (λ k. false) (archiveAfter fresh firstCall) ≢ fresh
+  -- a Gather that compares four bytes of the header: a share of another id is refused, its last byte too
+  pub other-id : gatherAnswer (keeping ended []) (put 1 11 (λ i. 0x09) ended) 1 ≡ RefusedOutcome BadArchive
+  -- one that gathers over filled places
+  pub no-overwriting : gatherAnswer ended ended 2 ≡ RefusedOutcome PlaceFilled
+  -- one that takes the records of filled places alone: a byte in an empty place's record comes along, and no mark with it
+  pub empty-too : gatherAfter (keeping ended []) (put 1 18 (λ i. 0x01) ended) 0 ≡ put 1 18 (λ i. 0x01) (keeping ended [])
+  -- a Rows that goes by records and not by marks: node 0 is empty, whatever stands where its first row would
+  pub unmarked-row : (out : List ℕ) → length out ≡ 4 → rowsOut (put 2 21 (λ i. 0x01) ended) 0 out ≡ 0x00 ∷ 0x00 ∷ 0x00 ∷ 0x00 ∷ []
   -- a Read that does not look: 8 comes with a vector that is orthogonal to every filled row
   pub seen : (s out written : List ℕ) → ReadAllows s out (Refused Unreadable) written → Blind (sizesOf s) (markAt s) (rowIn (sizesOf s) s)
   -- an invented number from Inventory: it is that of the filled places

@@ -5,6 +5,7 @@ pub mod Companions
 pub mod Plans
 pub mod Losing
 pub mod Fresh
+pub mod Shares
 pub mod Life
 pub mod Worked
 pub mod SmallCases

@@ -1,25 +1,29 @@
 -- A life in numbers, lived twice, in layout 1 and in layout 2 with three tags: a concrete archive, keys and a list of calls that meet every
 -- premise of demand 3, with accepted Encodes, an accepted Repair, refused calls that carry other data, and two honest audits, one of which
 -- proves nothing.
-use Prim.Native.Nat.{ℕ, _*_}
+use Prim.Native.Nat.{ℕ, _-_, _*_}
 use mathlib.Core.Path.{_≡_, refl}
-use mathlib.Core.List.{List, [], _∷_}
-use lib.ListN.{length}
+use mathlib.Core.List.{List, [], _∷_, _++_}
+use lib.ListN.{length, take, drop}
 use Rattle.lists.specs.Lists.{at, tab, flat, zeroPadded, Bytes}
 use Rattle.answer.specs.declared.Outcome.the-variants.{Done, Refused}
 use Rattle.answer.specs.declared.Counted.the-variants.{Count}
 use Rattle.answer.specs.declared.Refusal.the-variants.{Length, NoSuchPlace, PlaceEmpty, PlaceFilled, ProvesNothing}
 use Rattle.sizes.specs.declared.Sizes.{Sizes}
-use Rattle.sizes.specs.Lengths.{recordLength, archiveLength, auxiliaryLength}
+use Rattle.sizes.specs.Lengths.{recordLength, archiveLength, recordStart, auxiliaryLength}
 use Rattle.tag.specs.Vector.{vectorOut}
 use Rattle.mask.specs.Setup.{setupAnswer}
 use Rattle.audit.specs.declared.Judgement.the-variants.{Accepted, Refused as RefusedJudgement}
+use Rattle.archive.specs.Layout.{layoutOf, sizesOf}
 use Rattle.archive.specs.Open.{openAnswer, openOut}
+use Rattle.archive.specs.Gather.{gatherAnswer, gatherAfter}
+use Rattle.archive.specs.Told.{sizesAnswer, rowsAnswer, rowsOut}
 use Rattle.archive.specs.Inventory.{inventoryAnswer, inventoryOut}
 use Rattle.archive.specs.Losses.{LossesAllows}
 use Rattle.archive.specs.Calls.{Call, encode, lose, repair, archiveAnswers, archiveRun}
 use Rattle.promise.specs.Table.{Table, allEmpty, tableRun}
 use Rattle.promise.specs.Fresh.{freshCalls}
+use Rattle.promise.specs.Shares.{keeping, shareOf, gatherRun, GathersDone}
 use Rattle.promise.specs.Demand3.{Given, setting, givenAuxiliary, Admitted, Honest, message, sent, says, Telling, Silent}
 
 abbrev pub z : (tags : ℕ) → Sizes
@@ -155,6 +159,28 @@ three =
           ∷ 0xfd ∷ 0x76 ∷ [];
     }
 
+-- of an archive of the life: its first twelve bytes, a byte of marks, the records of one node, and zeros elsewhere
+abbrev pub alone : (tags mark node : ℕ) (s : List ℕ) → List ℕ
+alone tags mark node s =
+    take 12 s
+    ++ ((mark ∷ tab 5 (λ i. 0))
+    ++ (tab (2 * node * recordLength (z tags)) (λ i. 0)
+    ++ (take (2 * recordLength (z tags)) (drop (recordStart (z tags) (2 * node)) s) ++ tab (2 * (2 - node) * recordLength (z tags)) (λ i. 0))))
+
+-- what an archive in which the life ended tells of itself, and its shares
+pub record Shared (w : Numbers) (s : List ℕ) : Type 0 where
+  pub sizes-are : (sizesAnswer s ≡ Done) × (layoutOf s ≡ w .layout) × (sizesOf s ≡ z (w .tags))
+  -- whatever Rows is lent: zeros for node 0, which is lost, and the rows of nodes 1 and 2
+  pub rows-are : (out : List ℕ) → length out ≡ 4
+      → (rowsAnswer s 0 out ≡ Done) × (rowsAnswer s 1 out ≡ Done) × (rowsAnswer s 2 out ≡ Done)
+      × (rowsOut s 0 out ≡ 0x00 ∷ 0x00 ∷ 0x00 ∷ 0x00 ∷ [])
+      × (rowsOut s 1 out ≡ 0x53 ∷ 0xca ∷ 0x00 ∷ 0x00 ∷ [])
+      × (rowsOut s 2 out ≡ 0xf3 ∷ 0xfe ∷ 0x72 ∷ 0xfb ∷ [])
+  -- the shares of nodes 1 and 2
+  pub shares-are : (shareOf s 1 ≡ alone (w .tags) 0x30 1 s) × (shareOf s 2 ≡ alone (w .tags) 0x0c 2 s)
+  -- the shares of all three, gathered from the last to the first
+  pub whole-again : GathersDone s (keeping s []) (2 ∷ 1 ∷ 0 ∷ []) × (gatherRun s (keeping s []) (2 ∷ 1 ∷ 0 ∷ []) ≡ s)
+
 pub record Lived (w : Numbers) : Type 0 where
   pub opens : openAnswer (w .layout) (z (w .tags)) id (lent (w .tags)) ≡ Done
   pub sets-up : setupAnswer tagKey maskKey id 3 (w .tags) (auxiliaryLent (w .tags)) ≡ Done
@@ -168,6 +194,14 @@ pub record Lived (w : Numbers) : Type 0 where
   pub fresh-is : (lent : List ℕ) → length lent ≡ archiveLength (z (w .tags))
       → (archiveAnswers (openOut (w .layout) (z (w .tags)) id lent) encodes ≡ Done ∷ Done ∷ Done ∷ Done ∷ [])
       × (archiveRun (openOut (w .layout) (z (w .tags)) id lent) encodes ≡ w .archiveBytes)
+  pub shared : Shared w (archive (w .layout) (w .tags))
+  -- of the owner's two archives, the rows of node 1 encoded on one and those of node 2 on the other: node 2, gathered into the first, makes
+  -- the life's archive
+  pub merged : (lent : List ℕ) → length lent ≡ archiveLength (z (w .tags))
+      → (gatherAnswer (archiveRun (openOut (w .layout) (z (w .tags)) id lent) (take 2 encodes))
+      (archiveRun (openOut (w .layout) (z (w .tags)) id lent) (drop 2 encodes)) 2 ≡ Done)
+      × (gatherAfter (archiveRun (openOut (w .layout) (z (w .tags)) id lent) (take 2 encodes))
+      (archiveRun (openOut (w .layout) (z (w .tags)) id lent) (drop 2 encodes)) 2 ≡ w .archiveBytes)
   -- whatever Inventory is lent: both places of nodes 1 and 2, in shelf order
   pub inventory-is : (out : List ℕ) → length out ≡ 6
       → (inventoryAnswer (archive (w .layout) (w .tags)) out ≡ Count 4)

@@ -8,6 +8,7 @@ ghost use Rattle.promise.specs.Companions.{Unmasking, ReadIsFixed, Inven
 ghost use Rattle.promise.specs.Plans.{PlanIsFixed, PlannedRepair, NoThetas, PlanReadsRows};
 ghost use Rattle.promise.specs.Losing.{LossesAreFixed, LossesAreReads};
 ghost use Rattle.promise.specs.Fresh.{RebuiltIsFresh, TableFixesBytes};
+ghost use Rattle.promise.specs.Shares.{GatheredIsWhole, Demand3GoesOn};
 
 // Demand 3: a single claim about every list of Encode, Lose and Repair calls.
 pub fn demand3()
@@ -22,6 +23,16 @@ pub fn rebuilt_is_fresh()
 // Whatever calls led to it, one table has one archive.
 pub fn table_fixes_bytes()
     ensures { λ _. ⌜ TableFixesBytes ⌝ }
+{}
+
+// Gathered shares are the whole archive, of every archive and every set of its nodes (the scheme: boxes).
+pub fn gathered_is_whole()
+    ensures { λ _. ⌜ GatheredIsWhole ⌝ }
+{}
+
+// Demand 3 goes on: after calls and gathers, in any order, the archive follows the row table.
+pub fn demand3_goes_on()
+    ensures { λ _. ⌜ Demand3GoesOn ⌝ }
 {}
 
 // Unmasking gives the block that was masked, for every archive.

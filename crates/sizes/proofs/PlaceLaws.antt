@@ -13,6 +13,13 @@ module _ (z : Sizes) (R : Ranged z) where
   pub count-low : placeCount z ≤ markCount
   count-low = mul-le-mul {n₂ = nodesMost} {m₂ = placesMost} (R .nodes-high) (R .places-high)
 
+  -- the mark of a place, and those of a node's places
+  pub number-mark : (node place : ℕ) → node < z .nodes → place < z .places → placeNumber z node place < markCount
+  number-mark node place h hp = omega (arith, number-low node place h hp, count-low)
+
+  pub marks-in : (node : ℕ) → node < z .nodes → node * z .places + z .places ≤ markCount
+  marks-in node h = omega (arith, mul-le-mul-right (z .places) h, count-low)
+
   pub file-low : fileLength z ≤ mMost * nMost
   file-low = mul-le-mul {n₂ = mMost} {m₂ = nMost} (R .m-high) (omega (arith, R .n-high))
 
@@ -30,3 +37,7 @@ node-fits z node h = omega (arith, mul-le-mul-right (z .places) h)
 -- the record of a place lies in the archive
 pub record-fits : (z : Sizes) (k : ℕ) → k < placeCount z → recordStart z k + recordLength z ≤ archiveLength z
 record-fits z k h = omega (arith, mul-le-mul-right {m = k + 1} {n = placeCount z} (recordLength z) (omega arith))
+
+-- and so do the records of a node
+pub node-in : (z : Sizes) (node : ℕ) → node < z .nodes → recordStart z (node * z .places) + z .places * recordLength z ≤ archiveLength z
+node-in z node h = omega (arith, mul-le-mul-right (z .places * recordLength z) h)

@@ -21,6 +21,9 @@ ghost use Rattle.archive.specs.Inventory.{inventoryAnswer, inventoryOut};
 ghost use Rattle.archive.specs.Read.{ReadAllows};
 ghost use Rattle.archive.specs.Plan.{PlanAllows};
 ghost use Rattle.archive.specs.Losses.{LossesAllows};
+ghost use Rattle.archive.specs.Layout.{layoutOf, sizesOf};
+ghost use Rattle.archive.specs.Gather.{gatherAnswer, gatherAfter};
+ghost use Rattle.archive.specs.Told.{sizesAnswer, sizeAfter, rowsAnswer, rowsOut};
 ghost use Rattle.sizes.specs.declared.Sizes.{Sizes};
 use answer::Counted;
 
@@ -319,6 +322,43 @@ pub extern "C" fn span_repair(
         ⌜ now (scratch .exit) ≡ scratchAfter archive target helpers q gammas thetas (now (scratch .entry)) ⌝ }
 {
     answer::number(coding::repair(archive, target, helpers, q, gammas, thetas, scratch))
+}
+
+#[no_mangle]
+pub extern "C" fn span_gather(archive: &mut [u8], share: &[u8], node: usize) -> u8
+    ensures number { λ r. ⌜ r ≡ outcomeNumber (gatherAnswer (now (archive .entry)) (now (share .entry)) node) ⌝ }
+    ensures output { λ _. ⌜ now (archive .exit) ≡ gatherAfter (now (archive .entry)) (now (share .entry)) node ⌝ }
+{
+    answer::number(gathering::gather(archive, share, node))
+}
+
+#[no_mangle]
+pub extern "C" fn span_sizes(
+    archive: &[u8],
+    layout: &mut usize,
+    n: &mut usize,
+    m: &mut usize,
+    places: &mut usize,
+    nodes: &mut usize,
+    tags: &mut usize,
+) -> u8
+    ensures number { λ r. ⌜ r ≡ outcomeNumber (sizesAnswer (now (archive .entry))) ⌝ }
+    ensures layout { λ _. let s = now (archive .entry) in ⌜ now (layout .exit) ≡ sizeAfter s (layoutOf s) (now (layout .entry)) ⌝ }
+    ensures n { λ _. let s = now (archive .entry) in ⌜ now (n .exit) ≡ sizeAfter s (sizesOf s .n) (now (n .entry)) ⌝ }
+    ensures m { λ _. let s = now (archive .entry) in ⌜ now (m .exit) ≡ sizeAfter s (sizesOf s .m) (now (m .entry)) ⌝ }
+    ensures places { λ _. let s = now (archive .entry) in ⌜ now (places .exit) ≡ sizeAfter s (sizesOf s .places) (now (places .entry)) ⌝ }
+    ensures nodes { λ _. let s = now (archive .entry) in ⌜ now (nodes .exit) ≡ sizeAfter s (sizesOf s .nodes) (now (nodes .entry)) ⌝ }
+    ensures tags { λ _. let s = now (archive .entry) in ⌜ now (tags .exit) ≡ sizeAfter s (sizesOf s .tags) (now (tags .entry)) ⌝ }
+{
+    answer::number(gathering::sizes(archive, layout, n, m, places, nodes, tags))
+}
+
+#[no_mangle]
+pub extern "C" fn span_rows(archive: &[u8], node: usize, rows: &mut [u8]) -> u8
+    ensures number { λ r. ⌜ r ≡ outcomeNumber (rowsAnswer (now (archive .entry)) node (now (rows .entry))) ⌝ }
+    ensures output { λ _. ⌜ now (rows .exit) ≡ rowsOut (now (archive .entry)) node (now (rows .entry)) ⌝ }
+{
+    answer::number(gathering::rows(archive, node, rows))
 }
 
 // The number of an answer; its value, where it has one, is written.

@@ -2,7 +2,8 @@ use borrow.Author.Needs.{needs}
 use mathlib.Core.Path.{refl}
 use native.Mathlib.Omega.{arith}
 use Rattle.sizes.proofs.SizeLaws.{not-sizes-outside}
-use Rattle.coding.proofs.RepairLaws.{marks-in, blocks-low, repairable, target-filled}
+use Rattle.sizes.proofs.PlaceLaws.{marks-in}
+use Rattle.coding.proofs.RepairLaws.{blocks-low, repairable, target-filled}
 use Rattle.coding.proofs.repairing.fill_target.Statement.{statement}
 use Rattle.coding.proofs.repairing.fill_target.Tie as tie
 

@@ -10,7 +10,8 @@ use Rattle.vector.specs.Vectors.{mixed}
 use Rattle.sizes.proofs.SizeLaws.{ranged}
 use Rattle.vector.proofs.AddedLaws.{row-made}
 use Rattle.sizes.specs.Lengths.{recordStart}
-use Rattle.coding.proofs.RepairLaws.{number-mark, record-in, records-in, record-from, record-made}
+use Rattle.sizes.proofs.PlaceLaws.{number-mark}
+use Rattle.coding.proofs.RepairLaws.{record-in, records-in, record-from, record-made}
 use Rattle.coding.proofs.repairing.target_records.Statement.{statement}
 use Rattle.coding.proofs.repairing.target_records.Tie as tie
 

@@ -32,8 +32,8 @@ pub fn changed_of_three(at: usize, b: u8) -> Bytes {
 }
 
 // What a refused call left of an archive.
-pub fn unchanged(before: Bytes, after: Bytes) {
-    cases::unchanged(&before, &after);
+pub fn archive_kept(before: Bytes, after: Bytes) {
+    crate::unchanged(&before, &after);
 }
 
 // The number that an answer counts; 255 where it is refused.

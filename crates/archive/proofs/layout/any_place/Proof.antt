@@ -7,10 +7,10 @@ use native.Mathlib.Omega.{arith}
 use Rattle.lists.specs.Lists.{pick}
 use Rattle.lists.proofs.AnyLaws.{any-some, any-none}
 use Rattle.sizes.proofs.SizeLaws.{ranged}
 use Rattle.archive.specs.Layout.{markAt}
-use Rattle.coding.proofs.RepairLaws.{number-mark}
-use Rattle.coding.proofs.repairing.any_place.Statement.{statement}
-use Rattle.coding.proofs.repairing.any_place.Tie as tie
+use Rattle.sizes.proofs.PlaceLaws.{number-mark}
+use Rattle.archive.proofs.layout.any_place.Statement.{statement}
+use Rattle.archive.proofs.layout.any_place.Tie as tie
 
 -- the test of one place
 tested : (filled mark : Bool) {m t : Bool} → m ≡ mark → Bool·beq m filled ≡ t → pick filled mark (not mark) ≡ t
