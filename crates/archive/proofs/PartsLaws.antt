@@ -101,7 +101,7 @@ stored-is layout z id e mark old new k count rec fits =
 -- ---- an archive with the front of one that is not bad
 
 -- the same front, the same sizes
-front-field : (s t : List ℕ) → ((i : ℕ) → i < 12 → at t i ≡ at s i) → (from w : ℕ) → from + w ≤ 96 → fieldAt t from w ≡ fieldAt s from w
+pub front-field : (s t : List ℕ) → ((i : ℕ) → i < 12 → at t i ≡ at s i) → (from w : ℕ) → from + w ≤ 96 → fieldAt t from w ≡ fieldAt s from w
 front-field s t front from w h = field-same t s 12 from w front h
 
 pub front-sizes : (s t : List ℕ) → ((i : ℕ) → i < 12 → at t i ≡ at s i) → sizesOf t ≡ sizesOf s
