@@ -8,8 +8,7 @@
    Threads: the library has no writable data of its own, so calls on different buffers may run at once. Alignment: none is asked for. Stack: below
    17 KiB at the largest sizes (measured by tests/run, not proved). Mapped memory: an archive may be a mapped file; a fault in it is the caller's.
    Timing: a product takes no branch on its operands, so zero bytes cost what others do (measured by bench/run, not proved). It looks tables up by
-   their values; Inverse tests for 00, Read, Plan and Losses go by rows and marks, Verdict and Examine stop at the first vector that fails: nothing is
-   constant-time.
+   their values; Inverse tests for 00, Read, Plan and Losses go by rows and marks, Verdict stops at the first tag that fails: nothing is constant-time.
 
    The bytes of an archive: 4 of packed sizes (the layout in 4 bits, n in 11, m in 5, places in 4, nodes in 3; then under layout 2 the tags in 4
    and a zero bit, under layout 1, which has one tag, five zero bits), the id from byte 4, 48 fill marks from byte 12 (that of node b, place p is
@@ -35,9 +34,9 @@
 #define SPAN_ZERO_KEY 7        /* a tag key with a key vector, of one of the tags, whose first n-2 elements are zero */
 #define SPAN_UNREADABLE 8      /* the filled rows do not determine the file */
 #define SPAN_MALFORMED 9       /* a message, or fields that no challenge has */
-#define SPAN_PROVES_NOTHING 11 /* span_verdict and span_examine: the named rows cancel, so any box could answer the challenge; draw another */
+#define SPAN_PROVES_NOTHING 11 /* span_verdict alone: the named rows cancel, so any box could answer the challenge; draw another */
 #define SPAN_NO_PLAN 12        /* span_plan alone: no thetas give the wanted rows */
-#define SPAN_REJECTED 255      /* span_verdict and span_examine: no refusal */
+#define SPAN_REJECTED 255      /* span_verdict alone: no refusal */
 
 /* Lengths, exact ones, in bytes. */
 #define SPAN_KEY_BYTES 32
@@ -57,8 +56,6 @@
 #define SPAN_ROWS_BYTES(places, m) ((places) * (m))
 #define SPAN_RESPONSE_BYTES(n, tags) ((n) + 12 + 2 * (tags))
 #define SPAN_LOSSES_BYTES 20
-#define SPAN_PRINT_COUNT 10
-#define SPAN_PRINTS_BYTES(m) (SPAN_PRINT_COUNT * (m))
 
 #ifdef __cplusplus
 extern "C" {
@@ -140,21 +137,6 @@ uint8_t span_prove(const uint8_t *archive, size_t archive_len, const uint8_t *ma
    response's first byte), 11 (the rows of the named places, combined by the coefficients, are zero). */
 uint8_t span_verdict(const uint8_t *tag_key, size_t tag_key_len, const uint8_t *id, size_t id_len, size_t n, size_t m, size_t places,
                      size_t nodes, size_t tags, const uint8_t *rows, size_t rows_len, const uint8_t *message, size_t message_len,
-                     const uint8_t *response, size_t response_len);
-
-/* The ten prints of each of the m source blocks, 10*m bytes, block by block: print s is the product of the block, row and all, with key vector s
-   (span_vector) of the check key. The check key stays with the owner. It is never the tag key, whose elements a box can solve for, and no
-   auxiliary elements are ever made with it; neither is refused. Refuses 1, 2. */
-uint8_t span_prints(const uint8_t *check_key, size_t check_key_len, const uint8_t *id, size_t id_len, size_t n, size_t m,
-                    const uint8_t *file, size_t file_len, const uint8_t *padding, size_t padding_len, uint8_t *prints, size_t prints_len);
-
-/* The owner's own judgement on a response, as span_verdict's: 0 where, for each of the ten vectors of the check key, the bytes behind the mask,
-   the two in clear and the combined row have the product that the prints, combined by that row, foretell; 255 where not. Neither tags nor mask
-   sums are looked at; `tags` only says how long the response is. Prints and rows come from the owner, never from the box. Refuses 1, 9, 2, 4, 9
-   (the response's first byte), 11. */
-uint8_t span_examine(const uint8_t *check_key, size_t check_key_len, const uint8_t *mask_key, size_t mask_key_len, const uint8_t *id,
-                     size_t id_len, size_t n, size_t m, size_t places, size_t nodes, size_t tags, const uint8_t *prints,
-                     size_t prints_len, const uint8_t *rows, size_t rows_len, const uint8_t *message, size_t message_len,
                      const uint8_t *response, size_t response_len);
 
 /* The n-2 bytes that a response hides. Refuses 1, 2, 9. */

@@ -10,10 +10,9 @@
 
 enum { LIMIT = 17 * 1024, PAINT = 0xa5 };
 
-static const uint8_t tag_key[32] = {3}, mask_key[32] = {4}, check_key[32] = {5}, nonce[12] = {2};
+static const uint8_t tag_key[32] = {3}, mask_key[32] = {4}, nonce[12] = {2};
 static struct inputs inputs;
 static uint8_t archive[ARCHIVE(TAGS)], share[ARCHIVE(TAGS)], scratch[SCRATCH(TAGS)], message[MESSAGE], response[RESPONSE(TAGS)], out[FILE_LENGTH], count;
-static uint8_t told[SPAN_PRINTS_BYTES(M)];
 static size_t six[6];
 
 static uint8_t multiply(void) { return span_multiply(2, 3) != 6; }
@@ -46,13 +45,6 @@ static uint8_t verdict(void) {
     return span_verdict(tag_key, 32, id, 8, N, M, PLACES, NODES, TAGS, inputs.table, PLACES * M, message, MESSAGE, response,
                         RESPONSE(TAGS));
 }
-static uint8_t prints(void) {
-    return span_prints(check_key, 32, id, 8, N, M, inputs.file, FILE_LENGTH, inputs.padding, 2 * M, told, sizeof told);
-}
-static uint8_t examine(void) {
-    return span_examine(check_key, 32, mask_key, 32, id, 8, N, M, PLACES, NODES, TAGS, told, sizeof told, inputs.table, PLACES * M, message,
-                        MESSAGE, response, RESPONSE(TAGS));
-}
 static uint8_t unmask(void) { return span_unmask(N, TAGS, id, 8, mask_key, 32, response, RESPONSE(TAGS), out, N - 2); }
 static uint8_t inventory(void) { return span_inventory(archive, ARCHIVE(TAGS), out, NODES * PLACES, &count); }
 static uint8_t read_(void) { return span_read(archive, ARCHIVE(TAGS), out, FILE_LENGTH, &count); }
@@ -71,9 +63,8 @@ static const struct {
 } operations[] = {{"multiply", multiply}, {"inverse", inverse},     {"block", block},   {"vector", vector},
                   {"open", open_},        {"setup", setup},         {"encode", encode}, {"plan", plan},
                   {"repair", repair},     {"challenge", challenge}, {"prove", prove},   {"verdict", verdict},
-                  {"prints", prints},     {"examine", examine},     {"unmask", unmask}, {"inventory", inventory},
-                  {"read", read_},        {"losses", losses},       {"sizes", sizes},   {"rows", rows},
-                  {"lose", lose},         {"gather", gather}};
+                  {"unmask", unmask},     {"inventory", inventory}, {"read", read_},    {"losses", losses},
+                  {"sizes", sizes},       {"rows", rows},           {"lose", lose},     {"gather", gather}};
 
 /* Aligned, so that no depth hangs on where the linker puts it. */
 static _Alignas(64) uint8_t stack[1 << 18];

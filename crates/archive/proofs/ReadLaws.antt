@@ -39,11 +39,11 @@ blind_same z f g r r' marks rows w =
 -- ---- the solution
 
 -- the bytes of a column
-column_low : (z : Sizes) (xs : List ℕ) → length xs ≡ file_length z.n z.m → Bytes xs
+column_low : (z : Sizes) (xs : List ℕ) → length xs ≡ file_length z → Bytes xs
     → (e i : ℕ) → e < z.n - 2 → i < z.m → at xs (i * (z.n - 2) + e) < 256
 column_low z xs q b e i he h = b (i * (z.n - 2) + e) (omega (arith, mul-le-mul_right (z.n - 2) h))
 
-module _ (z : Sizes) (s out file : List ℕ) (w : Solved z s out) (low : 3 ≤ z.n) (size : length file ≡ file_length z.n z.m) (bytes : Bytes file)
+module _ (z : Sizes) (s out file : List ℕ) (w : Solved z s out) (low : 3 ≤ z.n) (size : length file ≡ file_length z) (bytes : Bytes file)
     (fits : (k e : ℕ) → k < place_count z → w.taken k ≡ true → e < z.n - 2
     → product z.m (row_in z s k) (λ i. at file (i * (z.n - 2) + e)) ≡ byte_in z s k e)
     (readable : ¬ Blind z (mark_at s) (row_in z s)) where

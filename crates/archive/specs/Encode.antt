@@ -16,8 +16,8 @@ abbrev pub encode_for : (z : Sizes) (filled : ℕ → ℕ → Bool) (node place 
 encode_for z filled node place file padding tag_key row =
     refuse
     (any_of
-    (differs (length file) (file_length z.n z.m)
-    ∷ differs (length padding) (padding_length z.m)
+    (differs (length file) (file_length z)
+    ∷ differs (length padding) (padding_length z)
     ∷ differs (length tag_key) key_length
     ∷ differs (length row) z.m
     ∷ [])) Length

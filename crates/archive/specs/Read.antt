@@ -33,7 +33,7 @@ pub record Blind (z : Sizes) (named : ℕ → Bool) (row : ℕ → ℕ → ℕ) 
 pub record Solved (z : Sizes) (s file : List ℕ) : Type 0 where
   pub taken : ℕ → Bool
   pub takes : Takes z.m (row_in z s) (mark_at s) (place_count z) taken
-  pub size : length file ≡ file_length z.n z.m
+  pub size : length file ≡ file_length z
   pub bytes : Bytes file
   pub solves : (k e : ℕ) → k < place_count z → taken k ≡ true → e < z.n - 2
       → product z.m (row_in z s k) (λ i. at file (i * (z.n - 2) + e)) ≡ byte_in z s k e
@@ -52,7 +52,7 @@ pub record Enough (z : Sizes) (filled : ℕ → Bool) (row : ℕ → ℕ → ℕ
 -- ---- refusals and the answer
 
 abbrev pub read_before : (z : Sizes) (s out : List ℕ) → Outcome
-read_before z s out = refuse (bad_archive s) BadArchive (refuse (differs (length out) (file_length z.n z.m)) Length Done)
+read_before z s out = refuse (bad_archive s) BadArchive (refuse (differs (length out) (file_length z)) Length Done)
 
 -- refused: nothing is written; otherwise the number and the file
 abbrev pub ReadFor : Sizes → List ℕ → List ℕ → Counted → List ℕ → Type 0

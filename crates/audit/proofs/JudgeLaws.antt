@@ -1,64 +1,115 @@
--- What is known where nothing before 11 is refused, and how a judgement is reached. Assumes nothing.
+-- The turns of the code that judges a response, and what Verdict's answer tells. Assumes nothing.
 use Prim.Native.Nat.{ℕ, ◌+◌, ◌-◌, ◌*◌, ◌<◌, ◌≤◌}
 use mathlib.Core.Path.{◌≡◌, refl, sym, ap, ap₂, ◌∙◌}
 use mathlib.Core.Bool.{Bool, true, false, not}
 use mathlib.Core.List.{List}
+use mathlib.Core.Logic.{⊎_elim}
 use native.Mathlib.Omega.{arith}
 use lib.ListN.{length, replicate}
+use borrow.Author.Tests.{lt-ltb, le-ltb}
 use Rattle.lists.specs.Lists.{pick, at, put, any_below}
+use Rattle.lists.proofs.TabLaws.{order}
 use Rattle.lists.proofs.PutLaws.{put_front}
 use Rattle.lists.proofs.PartLaws.{part, part_at}
-use Rattle.lists.proofs.AnyLaws.{none_at}
+use Rattle.lists.proofs.AnyLaws.{none_at, any_same}
 use Rattle.answer.specs.declared.Refusal.{Refusal}
 use Rattle.answer.specs.declared.Refusal.TheVariants.{ProvesNothing}
 use Rattle.answer.specs.declared.Outcome.{Outcome}
 use Rattle.answer.specs.declared.Outcome.TheVariants.{Done, Refused as RefusedOutcome}
+use Rattle.answer.specs.Refusals.{differs}
 use Rattle.answer.proofs.RefusalLaws.{accepted, same}
 use Rattle.field.specs.Field.{plus}
 use Rattle.sizes.specs.declared.Sizes.{Sizes}
 use Rattle.sizes.specs.Sizes.{sizes_outside}
-use Rattle.sizes.specs.Lengths.{response_length}
-use Rattle.vector.specs.Vectors.{product, joined, added, all_zero}
-use Rattle.vector.proofs.VectorLaws.{mixed_vectors, product_keys, zero_same}
-use Rattle.vector.proofs.JoinedLaws.{joined_first, joined_then, joined_each, product_joined}
-use Rattle.vector.proofs.AddedLaws.{added_zeros}
 use Rattle.tag.specs.KeyVector.{key_vector}
+use Rattle.vector.specs.Vectors.{product, added, all_zero}
+use Rattle.sizes.proofs.SizeLaws.{ranged}
+use Rattle.vector.proofs.VectorLaws.{mixed_vectors, product_same, product_keys, product_split, zero_same}
+use Rattle.vector.proofs.AddedLaws.{added_zeros}
 use Rattle.linear.specs.declared.rows.Row.{Row}
 use Rattle.linear.specs.PrivateRows.{kept}
 use Rattle.linear.proofs.KeptLaws.{row_stored, kept_same, kept_at}
+use Rattle.sizes.specs.Lengths.{response_length, sum_at}
+use Rattle.message.specs.Response.{data_in, sum_in, tag_in}
 use Rattle.message.specs.Challenge.{Challenge, challenge_of, malformed_challenge, not_there}
-use Rattle.message.proofs.NamedLaws.{first_named}
-use Rattle.audit.specs.Judging.{judge_for, named_row, fails, agrees, judgement}
-use Rattle.audit.proofs.AgreeLaws.{agrees_same}
+use Rattle.audit.specs.Verdict.{verdict_for, named_row, appended, fails, accepts, judgement, verdict_of}
 use Rattle.audit.specs.declared.Judgement.TheVariants.{Accepted, Rejected, Refused}
+use Rattle.message.proofs.NamedLaws.{first_named}
 
--- ---- what the answer tells
+-- ---- the product with the elements of a vector
 
-module _ (z : Sizes) (wrong : Bool) (id rows message response : List ℕ) where
-  pub record Judged : Type 0 where
-    pub sized : sizes_outside z ≡ false
-    pub formed : malformed_challenge message ≡ false
-    pub right : wrong ≡ false
-    pub id_length_lem : length id ≡ 8
-    pub rows_length : length rows ≡ z.places * z.m
-    pub response_length_lem : length response ≡ response_length z.n z.tags
-    pub there : not_there z (challenge_of message) ≡ false
+module _ (z : Sizes) (low : 3 ≤ z.n) (row response vector : List ℕ) (s : ℕ) where
+  abbrev n : ℕ
+  n = z.n
 
-  pub judge_tells : judge_for z wrong id rows (challenge_of message) (malformed_challenge message) response ≡ Done → Judged
-  unfolding judge_for
-  judge_tells e =
-      let one = accepted _ _ _ e in
-      let two = accepted _ _ _ one.1 in
-      let three = accepted _ _ _ two.1 in
-      record {
-        sized = one.0;
-        formed = two.0;
-        right = none_at _ 0 three.0;
-        id_length_lem = same _ _ (none_at _ 1 three.0);
-        rows_length = same _ _ (none_at _ 2 three.0);
-        response_length_lem = same _ _ (none_at _ 3 three.0);
-        there = (accepted _ _ _ three.1).0;
-      }
+  -- from where the code counts to the elements in clear and to the tags
+  abbrev sums_end : ℕ
+  sums_end = z.n + z.tags
+
+  abbrev all : ℕ → ℕ
+  all = appended n z.tags response (at row)
+
+  -- the elements that are masked, those in clear, and the row
+  masked-part : (e : ℕ) → e < n - 2 → all e ≡ at response (1 + e)
+  unfolding appended data_in
+  masked-part e h = rw (lt-ltb e n (omega arith), lt-ltb e (n - 2) h)
+
+  clear-part : (e : ℕ) → e < 2 → all (n - 2 + e) ≡ at response (sums_end + 10 + e)
+  unfolding appended data_in
+  clear-part e h =
+      let q : n + 10 + z.tags + (n - 2 + e - (n - 2)) ≡ sums_end + 10 + e = omega arith in
+      rw (lt-ltb (n - 2 + e) n (omega arith), le-ltb (n - 2 + e) (n - 2) (omega arith), q)
+
+  row-part : (e : ℕ) → all (n - 2 + 2 + e) ≡ at row e
+  unfolding appended
+  row-part e =
+      let q : n - 2 + 2 + e - n ≡ e = omega arith in
+      rw (le-ltb (n - 2 + 2 + e) n (omega arith), q)
+
+  -- the products of the three parts add up to the product that Verdict compares
+  pub parts : {a b d : ℕ} → a ≡ product (n - 2) (at (part 1 (n - 1) response)) (at vector)
+      → b ≡ product 2 (at (part (sums_end + 10) (sums_end + 12) response)) (at (part (n - 2) n vector))
+      → d ≡ product z.m (at row) (at (part n (n + z.m) vector))
+      → differs (plus (plus a b) d) (plus (at response (sums_end + 12 + s)) (at response (sum_at n s)))
+      ≡ fails z (λ s. at vector) (at row) response s
+  unfolding fails
+  parts {a} {b} {d} p q r =
+      let whole : z.n + z.m ≡ n - 2 + 2 + z.m = omega arith in
+      let first : a ≡ product (n - 2) all (at vector) =
+      p ∙ product_same (n - 2) _ all _ (λ e h. part_at 1 (n - 1) response e (omega arith) ∙ sym (masked-part e h)) in
+      let second : b ≡ product 2 (λ e. all (n - 2 + e)) (λ e. at vector (n - 2 + e)) =
+      q ∙ product_same 2 _ _ _ (λ e h. part_at (sums_end + 10) (sums_end + 12) response e (omega arith) ∙ sym (clear-part e h))
+      ∙ product_keys 2 _ _ _ (λ e h. part_at (n - 2) n vector e (omega arith)) in
+      let third : d ≡ product z.m (λ e. all (n - 2 + 2 + e)) (λ e. at vector (n - 2 + 2 + e)) =
+      r ∙ product_same z.m _ _ _ (λ e h. sym (row-part e))
+      ∙ product_keys z.m _ _ _ (λ e h.
+      let w : n + e ≡ n - 2 + 2 + e = omega arith in
+      part_at n (n + z.m) vector e (omega arith) ∙ ap (at vector) w) in
+      let tag : at response (sums_end + 12 + s) ≡ tag_in n z.tags response s = ap (at response) (omega arith) in
+      ap₂ differs
+      (ap₂ plus (ap₂ plus first second ∙ sym (product_split (n - 2) 2 all (at vector))) third
+      ∙ sym (product_split (n - 2 + 2) z.m all (at vector)) ∙ ap (λ (x : ℕ). product x all (at vector)) (sym whole))
+      (ap (λ (x : ℕ). plus x (sum_in n response s)) tag)
+
+-- over equal key elements and equal rows
+fails_same : (z : Sizes) (v v' : ℕ → ℕ → ℕ) (u u' : ℕ → ℕ) (response : List ℕ) (s : ℕ)
+    → ((e : ℕ) → e < z.n + z.m → v s e ≡ v' s e) → ((i : ℕ) → i < z.m → u i ≡ u' i) → fails z v u response s ≡ fails z v' u' response s
+unfolding fails appended
+fails_same z v v' u u' response s f g =
+    ap (λ (k : ℕ). differs k (plus (tag_in z.n z.tags response s) (sum_in z.n response s)))
+    (product_keys (z.n + z.m) _ (v s) (v' s) f ∙ product_same (z.n + z.m) _ _ (v' s) (λ e h.
+    ⊎_elim
+    (λ (l : e < z.n). rw (lt-ltb e z.n l))
+    (λ (l : z.n ≤ e). rw (le-ltb e z.n l) (g (e - z.n) (omega arith)))
+    (order e z.n)))
+
+-- over a buffer that was filled with the key vector of the tag
+pub fails_filled : (z : Sizes) (key id : List ℕ) (row : ℕ → ℕ) (response before : List ℕ) (s count : ℕ) {vector : List ℕ} {t : Bool}
+    → z.n + z.m ≤ 64 * count → 64 * count ≤ length before → vector ≡ put (64 * count) 0 (key_vector key id s) before
+    → t ≡ fails z (λ s. at vector) row response s → t ≡ fails z (key_vector key id) row response s
+fails_filled z key id row response before s count {vector} enough fits filled w =
+    w ∙ fails_same z (λ s. at vector) (key_vector key id) row row response s
+    (λ i l. ap (λ (x : List ℕ). at x i) filled ∙ put_front (64 * count) (key_vector key id s) before i (omega arith) fits) (λ i l. refl)
 
 -- ---- the combined row
 
@@ -71,64 +122,61 @@ row_named z c rows low e =
     row_stored z.m _ low (e ∙ added_zeros z.m 16 _ low)
     ∙ kept_same z.m _ _ (λ i h. mixed_vectors (length c.places) _ _ _ i (λ j l. ap (at rows) (omega arith)))
 
--- ---- the product of a block and a vector
+-- ---- what Verdict's answer tells, and what is judged then
 
--- those of its parts add up
-pub block_parts : (n m : ℕ) (first last row vector : List ℕ) {a b d : ℕ} → 3 ≤ n → a ≡ product (n - 2) (at first) (at vector)
-    → b ≡ product 2 (at last) (at (part (n - 2) n vector)) → d ≡ product m (at row) (at (part n (n + m) vector))
-    → plus (plus a b) d ≡ product (n + m) (joined n (joined (n - 2) (at first) (at last)) (at row)) (at vector)
-block_parts n m first last row vector low p q r =
-    let block : ℕ → ℕ = joined (n - 2) (at first) (at last) in
-    let whole : n - 2 + 2 ≡ n = omega arith in
-    let front =
-    ap₂ plus p (q ∙ product_keys 2 _ _ _ (λ e h. part_at (n - 2) n vector e (omega arith)))
-    ∙ sym (product_joined (n - 2) (at first) (at last) 2 (at vector)) ∙ ap (λ (x : ℕ). product x block (at vector)) whole in
-    ap₂ plus front (r ∙ product_keys m _ _ _ (λ e h. part_at n (n + m) vector e (omega arith)))
-    ∙ sym (product_joined n block (at row) m (at vector))
+module _ (key id : List ℕ) (z : Sizes) (rows message response : List ℕ) where
+  abbrev answer : Outcome
+  answer = verdict_for z key id rows (challenge_of message) (malformed_challenge message) response
 
--- over a buffer that was filled with key vector s
-pub product_filled : (len : ℕ) (block : ℕ → ℕ) (key id before : List ℕ) (s count : ℕ) {vector : List ℕ} {x : ℕ}
-    → len ≤ 64 * count → 64 * count ≤ length before → vector ≡ put (64 * count) 0 (key_vector key id s) before
-    → x ≡ product len block (at vector) → x ≡ product len block (key_vector key id s)
-product_filled len block key id before s count enough fits filled made =
-    made ∙ product_keys len block _ _ (λ i l.
-    ap (λ (v : List ℕ). at v i) filled ∙ put_front (64 * count) (key_vector key id s) before i (omega arith) fits)
+  abbrev combined : ℕ → ℕ
+  combined = named_row z rows (challenge_of message)
 
--- ---- the judgement
+  pub record Judged : Type 0 where
+    pub sized : sizes_outside z ≡ false
+    pub formed : malformed_challenge message ≡ false
+    pub key_length_lem : length key ≡ 32
+    pub id_length_lem : length id ≡ 8
+    pub rows_length : length rows ≡ z.places * z.m
+    pub response_length_lem : length response ≡ response_length z.n z.tags
+    pub there : not_there z (challenge_of message) ≡ false
 
--- what was refused before stays so
-pub refused_before : {o : Outcome} {r : Refusal} (nothing agreed : Bool) → o ≡ RefusedOutcome r → Refused r ≡ judgement o nothing agreed
-unfolding judgement
-refused_before nothing agreed e = rw e
+  pub verdict_tells : answer ≡ Done → Judged
+  unfolding verdict_for
+  verdict_tells e =
+      let one = accepted _ _ _ e in
+      let two = accepted _ _ _ one.1 in
+      let three = accepted _ _ _ two.1 in
+      record {
+        sized = one.0;
+        formed = two.0;
+        key_length_lem = same _ _ (none_at _ 0 three.0);
+        id_length_lem = same _ _ (none_at _ 1 three.0);
+        rows_length = same _ _ (none_at _ 2 three.0);
+        response_length_lem = same _ _ (none_at _ 3 three.0);
+        there = (accepted _ _ _ three.1).0;
+      }
 
--- what was not is judged
-pub judged_after : {o : Outcome} (nothing agreed : Bool) → o ≡ Done → judgement Done nothing agreed ≡ judgement o nothing agreed
-judged_after nothing agreed e = rw e
+  -- what is found of the row as it is kept
+  module _ (e : answer ≡ Done) {row : Row} (named : row ≡ kept z.m combined) {t : Bool} (w : t ≡ all_zero z.m (at row.bytes)) where
+    abbrev row_is : (i : ℕ) → i < z.m → at row.bytes i ≡ combined i
+    row_is = kept_at z.m _ (ranged z (verdict_tells e).sized).m_high named
 
-module _ (m count len : ℕ) (row elements : ℕ → ℕ) (vectors : ℕ → ℕ → ℕ) (wanted : ℕ → ℕ) {t : Bool} (zero : t ≡ all_zero m row) where
-  pub decided_nothing : t ≡ true → Refused ProvesNothing ≡ judgement Done (all_zero m row) (agrees count len elements vectors wanted)
-  unfolding judgement
-  decided_nothing e = rw (← zero, e)
+    zero_is : (b : Bool) → t ≡ b → all_zero z.m combined ≡ b
+    zero_is b tested = sym (zero_same z.m _ _ row_is) ∙ sym w ∙ tested
 
-  pub decided_by : t ≡ false → (b : Bool) {u : Bool} → u ≡ any_below count (fails len elements vectors wanted) → u ≡ b
-      → pick (not b) Accepted Rejected ≡ judgement Done (all_zero m row) (agrees count len elements vectors wanted)
-  unfolding judgement agrees
-  decided_by e b found f = rw (← zero, e, ← found, f)
+    pub verdict_unproved : t ≡ true → Refused ProvesNothing ≡ verdict_of key id z rows message response
+    unfolding verdict_of judgement
+    verdict_unproved tested = sym (ap₂ (λ (o : Outcome) (nothing : Bool). judgement o nothing (accepts z (key_vector key id) combined response)) e (zero_is true tested))
 
--- over a row as it is kept, data elements in two parts, and values that are wanted, wherever they come from
-pub judged_same : (z : Sizes) (count : ℕ) (vectors : ℕ → ℕ → ℕ) {row : Row} (combined first last elements wanted wanted' : ℕ → ℕ) → 3 ≤ z.n → z.m ≤ 16
-    → row ≡ kept z.m combined → ((e : ℕ) → e < z.n - 2 → first e ≡ elements e) → ((e : ℕ) → e < 2 → last e ≡ elements (z.n - 2 + e))
-    → ((s : ℕ) → s < count → wanted s ≡ wanted' s)
-    → judgement Done (all_zero z.m (at row.bytes))
-    (agrees count (z.n + z.m) (joined z.n (joined (z.n - 2) first last) (at row.bytes)) vectors wanted)
-    ≡ judgement Done (all_zero z.m combined) (agrees count (z.n + z.m) (joined z.n elements combined) vectors wanted')
-judged_same z count vectors {row = row} combined first last elements wanted wanted' low few named front back values =
-    let row_is : (i : ℕ) → i < z.m → at row.bytes i ≡ combined i = kept_at z.m _ few named in
-    let data_is : (e : ℕ) → e < z.n → joined (z.n - 2) first last e ≡ elements e =
-    λ e h. joined_each (z.n - 2) first last elements 2 front back e (omega arith) in
-    let block-is : (e : ℕ) → e < z.n + z.m
-    → joined z.n (joined (z.n - 2) first last) (at row.bytes) e ≡ joined z.n elements combined e =
-    joined_each z.n _ _ (joined z.n elements combined) z.m
-    (λ e h. data_is e h ∙ sym (joined_first z.n elements combined e h))
-    (λ e h. row_is e h ∙ sym (joined_then z.n elements combined e)) in
-    ap₂ (judgement Done) (zero_same z.m _ _ row_is) (agrees_same count (z.n + z.m) _ _ vectors vectors _ _ block-is (λ s e l h. refl) values)
+    pub verdict_judged : t ≡ false → (b : Bool) {u : Bool}
+        → u ≡ any_below z.tags (fails z (key_vector key id) (at row.bytes) response) → u ≡ b
+        → pick (not b) Accepted Rejected ≡ verdict_of key id z rows message response
+    unfolding verdict_of judgement accepts
+    verdict_judged tested b v found =
+        let k = key_vector key id in
+        let same = any_same z.tags _ _ (λ s l. fails_same z k k _ _ response s (λ i h. refl) row_is) in
+        rw (e, zero_is false tested, ← same, ← v, found)
+
+  pub verdict_refused : {r : Refusal} → answer ≡ RefusedOutcome r → Refused r ≡ verdict_of key id z rows message response
+  unfolding verdict_of judgement
+  verdict_refused e = rw e

@@ -1,3 +1,2 @@
-pub mod AgreeLaws
 pub mod JudgeLaws
 pub mod VerdictLaws

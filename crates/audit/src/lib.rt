@@ -1,14 +1,10 @@
-// The auditor's side (NC-Audit): the verdict on a response, and what the owner's own audit shares with it.
-mod checking;
-mod equations;
+// The auditor's side (NC-Audit): the verdict on a response.
 mod judge;
 
 use answer::Refusal;
-pub use checking::{judge_check, named_row};
-pub use equations::{block_product, decided};
 pub use judge::{number, verdict};
 
-// What Verdict and Examine say.
+// What Verdict says.
 #[derive(Drop)]
 pub enum Judgement {
     Accepted,

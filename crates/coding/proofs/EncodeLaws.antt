@@ -24,7 +24,6 @@ use Rattle.tag.specs.KeyVector.{key_vector, with_tags}
 use Rattle.sizes.proofs.SizeLaws.{Ranged}
 use Rattle.tag.specs.PrivateKeyStream.{GivesKeyVector}
 use Rattle.vector.proofs.VectorLaws.{mixed_same, product_same, product_keys}
-use Rattle.vector.proofs.JoinedLaws.{joined_first, joined_then}
 use Rattle.vector.proofs.AddedLaws.{length_added, added_at, added_below, added_above}
 use Rattle.linear.specs.declared.rows.Row.{Row}
 use Rattle.linear.specs.PrivateRows.{kept}
@@ -50,8 +49,8 @@ pub record Encodable (z : Sizes) (s : List ℕ) (node place : ℕ) (file padding
   pub number : place_number z node place < 48
   pub fits : record_start z (place_number z node place) + record_length z ≤ length s
   pub id_length_lem : length (id_of s) ≡ 8
-  pub file_length_lem : length file ≡ file_length z.n z.m
-  pub padding_length_lem : length padding ≡ padding_length z.m
+  pub file_length_lem : length file ≡ file_length z
+  pub padding_length_lem : length padding ≡ padding_length z
   pub key_length_lem : length key ≡ 32
   pub row_length : length row ≡ z.m
 
@@ -82,9 +81,11 @@ module _ (s : List ℕ) (node place : ℕ) (file padding key row : List ℕ) whe
 -- ---- the block
 
 module _ (z : Sizes) (file padding row : List ℕ) where
-  source-padding : (i e : ℕ) → 2 ≤ z.n → e < 2 → source z.n file padding i (z.n - 2 + e) ≡ at padding (i * 2 + e)
+  source-padding : (i e : ℕ) → 2 ≤ z.n → e < 2 → source z file padding i (z.n - 2 + e) ≡ at padding (i * 2 + e)
   unfolding source
-  source-padding i e l h = joined_first z.n _ _ (z.n - 2 + e) (omega arith) ∙ joined_then (z.n - 2) _ _ e
+  source-padding i e l h =
+      let q : z.n - 2 + e - (z.n - 2) ≡ e = omega arith in
+      rw (le-ltb (z.n - 2 + e) (z.n - 2) (omega arith), lt-ltb (z.n - 2 + e) z.n (omega arith), q)
 
   -- the combinations that are added, as the code finds their coefficients and vectors
   abbrev file_mixed : ℕ → ℕ

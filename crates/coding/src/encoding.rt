@@ -67,8 +67,8 @@ fn write_block(
 )
     requires { FieldTables tables.now
         × (sizes_outside z ≡ false)
-        × (length file.now ≡ file_length z.n z.m)
-        × (length padding.now ≡ padding_length z.m)
+        × (length file.now ≡ file_length z)
+        × (length padding.now ≡ padding_length z)
         × (start + block_length z ≤ length archive.old) }
     ensures { let file = file.entry.now in
         let padding = padding.entry.now in

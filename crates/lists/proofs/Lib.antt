@@ -11,4 +11,3 @@ pub mod AnyLaws
 pub mod AllLaws
 pub mod ReplaceLaws
 pub mod SortedLaws
-pub mod SpacedLaws

@@ -1,3 +1,4 @@
 pub mod MaskLaws
 pub mod MaskRowLaws
+pub mod SpacedLaws
 pub mod SetupLaws

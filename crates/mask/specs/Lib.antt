@@ -1,3 +1,4 @@
 pub mod Masks
 pub mod Setup
 pub mod Laws
+pub mod PrivateSpaced

@@ -5,7 +5,7 @@ ghost use Rattle.sizes.specs.Lengths.{id_length, n_least, n_most, tags_most, vec
 ghost use Rattle.field.specs.PrivateTables.{FieldTables};
 ghost use Rattle.keystream.specs.PrivateStream.{drawn, after};
 ghost use Rattle.vector.specs.Vectors.{product, added};
-ghost use Rattle.lists.specs.PrivateSpaced.{spaced};
+ghost use Rattle.mask.specs.PrivateSpaced.{spaced};
 ghost use Rattle.mask.specs.Masks.{mask_row, mask_coefficient, auxiliary, mask, mask_sum};
 
 use field::Tables;

@@ -14,7 +14,6 @@ use Rattle.lists.proofs.TabLaws.{order, length_tab, tab_at, tab_same}
 use Rattle.lists.proofs.PutLaws.{skip}
 use Rattle.lists.proofs.AllLaws.{all, all_at}
 use Rattle.field.specs.Field.{plus}
-use Rattle.vector.specs.Vectors.{joined}
 use Rattle.bits.specs.Fields.{◌wide◌, bit_of, bits_of, widths, number, packed, pack, field_at}
 use Rattle.bits.proofs.PackLaws.{pack_length}
 use Rattle.bits.proofs.AppendLaws.{field_front}
@@ -84,8 +83,8 @@ module _ (n tags node : ℕ) (block tag hidden : ℕ → ℕ) (seed : List ℕ) 
   response_sum s l =
       response-back s ∙ get_or-append (tab tags total) (clear ++ tab tags tag) 0 s (rw length_tab l) ∙ tab_at tags total s l
 
-  pub response_clear : (i : ℕ) → i < 2 → at r (clear_start n tags + i) ≡ block (n - 2 + i)
-  response_clear i l =
+  response-clear : (i : ℕ) → i < 2 → at r (clear_start n tags + i) ≡ block (n - 2 + i)
+  response-clear i l =
       ap (at r) {x = n + 10 + tags + i} {y = n + 10 + (tags + i)} (omega arith) ∙ response-back (tags + i)
       ∙ skip (tab tags total) (clear ++ tab tags tag) tags i (length_tab tags total) ∙ get_or-append clear (tab tags tag) 0 i l
       ∙ ⊎_elim
@@ -134,7 +133,7 @@ module _ (n tags node : ℕ) (block tag hidden : ℕ → ℕ) (seed : List ℕ) 
           (λ (b : k < n + 12 + tags).
           let i : ℕ = k - (n + 10 + tags) in
           let q : k ≡ n + 10 + tags + i = omega arith in
-          rw q (cleared i (omega arith) ∙ sym (response_clear i (omega arith))))
+          rw q (cleared i (omega arith) ∙ sym (response-clear i (omega arith))))
           (λ (b : n + 12 + tags ≤ k).
           let i : ℕ = k - (n + 12 + tags) in
           let q : k ≡ n + 12 + tags + i = omega arith in
@@ -152,13 +151,13 @@ module _ (n tags node : ℕ) (block tag hidden : ℕ → ℕ) (seed : List ℕ) 
 
   -- the mask lies on the first n - 2 elements
   pub response_data : (i : ℕ) → i < n → data_in n tags r i ≡ plus (block i) (pick (ltb i (n - 2)) (hidden i) 0)
-  unfolding data_in joined
+  unfolding data_in
   response_data i h =
       ⊎_elim
       (λ (l : i < n - 2). rw (lt-ltb i (n - 2) l) (response_masked i l))
       (λ (l : n - 2 ≤ i).
       let q : n - 2 + (i - (n - 2)) ≡ i = omega arith in
-      rw (le-ltb i (n - 2) l) (response_clear (i - (n - 2)) (omega arith) ∙ ap block q ∙ sym (xor_zero_r (block i))))
+      rw (le-ltb i (n - 2) l) (response-clear (i - (n - 2)) (omega arith) ∙ ap block q ∙ sym (xor_zero_r (block i))))
       (order i (n - 2))
 
 -- the same block and tags give the same response

@@ -1,17 +1,19 @@
 -- What Unmask's answer tells, and what is written then. Assumes nothing.
 use Prim.Native.Nat.{ℕ, ◌+◌, ◌-◌, ◌≤◌}
-use mathlib.Core.Path.{◌≡◌, sym, ap, ◌∙◌}
+use mathlib.Core.Path.{◌≡◌, refl, sym, ap, ◌∙◌}
 use mathlib.Core.List.{List}
 use native.Mathlib.Omega.{arith}
 use lib.ListN.{length, take, drop}
-use Rattle.lists.specs.Lists.{at, put}
-use Rattle.lists.proofs.PutLaws.{put_same, put_again, put_at}
+use Rattle.lists.specs.Lists.{at, tab, put}
+use Rattle.lists.proofs.TabLaws.{is_tab}
+use Rattle.lists.proofs.PutLaws.{length_put, put_front}
 use Rattle.lists.proofs.AnyLaws.{none_at}
 use Rattle.answer.specs.declared.Outcome.{Outcome}
 use Rattle.answer.specs.declared.Outcome.TheVariants.{Done}
 use Rattle.answer.proofs.RefusalLaws.{accepted, same}
 use Rattle.field.specs.Field.{plus}
 use Rattle.vector.specs.Vectors.{added}
+use Rattle.vector.proofs.AddedLaws.{length_added, added_at}
 use Rattle.mask.specs.Masks.{mask_row, mask_coefficient, mask}
 use Rattle.sizes.specs.Lengths.{response_length, sum_at, n_least, n_most, key_length, id_length}
 use Rattle.sizes.proofs.SizeLaws.{n_range}
@@ -35,13 +37,16 @@ unfolding seed_in
 seed_part n k response e = rw e
 
 -- the masked bytes with the mask of the response's seed added are what was masked
-pub mask_off : (n : ℕ) (id key response out : List ℕ) {hidden seed copied w : List ℕ} → n - 2 ≤ length out → hidden ≡ key → seed ≡ seed_in n response
+pub mask_off : (n : ℕ) (id key response out : List ℕ) {hidden seed copied w : List ℕ} → length out ≡ n - 2 → hidden ≡ key → seed ≡ seed_in n response
     → copied ≡ put (n - 2) 0 (λ e. at response (1 + e)) out → w ≡ added (n - 2) 0 (mask n (mask_coefficient hidden seed) (mask_row hidden id)) copied
-    → w ≡ put (n - 2) 0 (unmasked n id key response) out
-unfolding unmasked added
+    → w ≡ tab (n - 2) (unmasked n id key response)
+unfolding unmasked
 mask_off n id key response out {copied = copied} {w = w} l k p q r =
+    let long : length copied ≡ n - 2 = ap length q ∙ length_put (n - 2) 0 _ out ∙ l in
     let off : ℕ → ℕ = mask n (mask_coefficient key (seed_in n response)) (mask_row key id) in
     let there : w ≡ added (n - 2) 0 off copied = rw (k, p) at r in
-    there ∙ ap (added (n - 2) 0 off) q
-    ∙ put_same (n - 2) 0 _ (unmasked n id key response) _ (λ e h. ap (λ (x : ℕ). plus x (off e)) (put_at (n - 2) 0 _ out e h (omega arith)))
-    ∙ put_again (n - 2) 0 (unmasked n id key response) _ out (omega arith)
+    is_tab (n - 2) _ w (ap length there ∙ length_added (n - 2) 0 off copied ∙ long) (λ e h.
+    let z : 0 + e ≡ e = omega arith in
+    let here : at copied (0 + e) ≡ at response (1 + e) = rw (z, q) (put_front (n - 2) _ out e h (omega arith)) in
+    let same : at w e ≡ at (added (n - 2) 0 off copied) (0 + e) = rw (there, z) refl in
+    same ∙ added_at (n - 2) 0 off copied e h (omega arith) ∙ ap (λ (x : ℕ). plus x (off e)) here)

@@ -14,15 +14,14 @@ use Rattle.answer.specs.declared.Refusal.TheVariants.{Size, Length, Malformed}
 use Rattle.answer.specs.Refusals.{differs}
 use Rattle.answer.proofs.RefusalLaws.{passed, after_done, not_outside}
 use Rattle.field.proofs.XorLaws.{xor_undo}
-use Rattle.vector.proofs.JoinedLaws.{joined_each}
 use Rattle.bits.specs.Fields.{◌wide◌, widths, field_at}
 use Rattle.bits.proofs.PackLaws.{pack_field}
 use Rattle.mask.specs.Masks.{mask_row, mask_coefficient, mask}
 use Rattle.sizes.specs.Lengths.{response_length, n_least, n_most, tags_most}
 use Rattle.sizes.specs.Sizes.{n_outside, tags_outside}
 use Rattle.message.specs.Response.{response_head, response_bytes}
-use Rattle.message.specs.Unmask.{unmask_answer, unmasked, unmasked_data, unmask_out}
-use Rattle.message.proofs.ResponseLaws.{response_length_lem, response_fields, response_masked, response_clear, response_seed}
+use Rattle.message.specs.Unmask.{unmask_answer, unmasked, unmask_out}
+use Rattle.message.proofs.ResponseLaws.{response_length_lem, response_fields, response_masked, response_seed}
 
 module _ (n tags node : ℕ) (block tag total : ℕ → ℕ) (id mask_key seed : List ℕ) (low : 3 ≤ n) (seed_size : length seed ≡ 11) where
   abbrev hidden : ℕ → ℕ
@@ -39,12 +38,6 @@ module _ (n tags node : ℕ) (block tag total : ℕ → ℕ) (id mask_key seed :
         response_masked n tags node block tag hidden seed total low seed_size e h,
       )
       (xor_undo (block e) (hidden e))
-
-  -- so of all data elements
-  pub unmask_data : (e : ℕ) → e < n → unmasked_data n tags id mask_key r e ≡ block e
-  unfolding unmasked_data
-  unmask_data e h =
-      joined_each (n - 2) _ _ block 2 unmask_element (response_clear n tags node block tag hidden seed total low seed_size) e (omega arith)
 
   -- ---- and refuses no such response
 

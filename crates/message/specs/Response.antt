@@ -1,8 +1,7 @@
 -- The response, its bytes and its parts (SCHEME, Messages). Elements count from 0 here, so those in clear are n - 2 and n - 1.
-use Rattle.std.specs.Prelude.{ℕ, ◌+◌, ◌-◌, List, [], ◌∷◌, ◌++◌, take, drop}
-use Rattle.lists.specs.Lists.{at, tab}
+use Rattle.std.specs.Prelude.{ℕ, ◌+◌, ◌-◌, List, [], ◌∷◌, ◌++◌, take, drop, ltb}
+use Rattle.lists.specs.Lists.{pick, at, tab}
 use Rattle.field.specs.Field.{plus}
-use Rattle.vector.specs.Vectors.{joined}
 use Rattle.bits.specs.Fields.{◌wide◌, pack}
 use Rattle.sizes.specs.Lengths.{seed_length, seed_start, sum_at, clear_start, tag_at}
 
@@ -19,16 +18,13 @@ response_bytes n tags node block tag hidden seed total =
 
 -- ---- its parts
 
--- of the n data elements, those masked and those in clear
+-- of the n data elements, those masked
 abbrev pub masked_in : (response : List ℕ) (e : ℕ) → ℕ
 masked_in response e = at response (1 + e)
 
-abbrev pub clear_in : (n tags : ℕ) (response : List ℕ) (e : ℕ) → ℕ
-clear_in n tags response e = at response (clear_start n tags + e)
-
--- all of them
+-- all of them: those masked and then those in clear
 unfoldable pub data_in : (n tags : ℕ) (response : List ℕ) (e : ℕ) → ℕ
-data_in n tags response = joined (n - 2) (masked_in response) (clear_in n tags response)
+data_in n tags response e = pick (ltb e (n - 2)) (masked_in response e) (at response (clear_start n tags + (e - (n - 2))))
 
 unfoldable pub seed_in : (n : ℕ) (response : List ℕ) → List ℕ
 seed_in n response = take seed_length (drop (seed_start n) response)

@@ -6,12 +6,11 @@ use Rattle.answer.specs.declared.Outcome.TheVariants.{Done}
 use Rattle.answer.specs.declared.Refusal.TheVariants.{Size, Length, Malformed}
 use Rattle.answer.specs.Refusals.{refuse, afterwards, differs}
 use Rattle.field.specs.Field.{plus}
-use Rattle.vector.specs.Vectors.{joined}
 use Rattle.bits.specs.Fields.{field_at}
 use Rattle.sizes.specs.Sizes.{n_outside, tags_outside}
 use Rattle.mask.specs.Masks.{mask_row, mask_coefficient, mask}
 use Rattle.sizes.specs.Lengths.{response_length, key_length, id_length}
-use Rattle.message.specs.Response.{masked_in, clear_in, seed_in}
+use Rattle.message.specs.Response.{masked_in, seed_in}
 
 -- refuses 1, 2, 9
 
@@ -32,10 +31,6 @@ unmask_answer n tags id mask_key response out =
 unfoldable pub unmasked : (n : ℕ) (id mask_key response : List ℕ) (e : ℕ) → ℕ
 unmasked n id mask_key response e =
     plus (masked_in response e) (mask n (mask_coefficient mask_key (seed_in n response)) (mask_row mask_key id) e)
-
--- the n data elements behind the mask: those bytes, then the two in clear
-unfoldable pub unmasked_data : (n tags : ℕ) (id mask_key response : List ℕ) (e : ℕ) → ℕ
-unmasked_data n tags id mask_key response = joined (n - 2) (unmasked n id mask_key response) (clear_in n tags response)
 
 unfoldable pub unmask_out : (n tags : ℕ) (id mask_key response out : List ℕ) → List ℕ
 unmask_out n tags id mask_key response out =

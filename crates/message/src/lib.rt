@@ -9,7 +9,7 @@ pub use asking::{
     add_named, challenge, coefficient_in, count_in, malformed, node_in, not_there, place_in,
 };
 pub use response::head_byte;
-pub use unmasking::{unmask, unmask_into};
+pub use unmasking::unmask;
 
 // Carries the law of unmasking: without its proof the crate is not proved.
 pub fn unmasks()

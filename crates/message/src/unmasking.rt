@@ -1,6 +1,6 @@
 // Unmask: the masked bytes of a response without their mask.
 ghost use Rattle.std.specs.Prelude.{◌≡◌, ◌-◌, ◌≤◌, length};
-ghost use Rattle.lists.specs.Lists.{put};
+ghost use Rattle.lists.specs.Lists.{tab};
 ghost use Rattle.sizes.specs.Lengths.{id_length, key_length, n_least, n_most, sum_at};
 ghost use Rattle.message.specs.Unmask.{unmask_answer, unmasked, unmask_out};
 
@@ -40,18 +40,18 @@ fn unmask_check(
     Outcome::Done
 }
 
-// The masked bytes at the front of out, and then the mask of the response's seed taken off them.
-pub fn unmask_into(n: usize, id: &[u8], mask_key: &[u8], response: &[u8], out: &mut [u8])
+// The masked bytes, and then the mask of the response's seed taken off them.
+fn unmask_into(n: usize, id: &[u8], mask_key: &[u8], response: &[u8], out: &mut [u8])
     requires { (n_least ≤ n)
         × (n ≤ n_most)
         × (length id.now ≡ id_length)
         × (length mask_key.now ≡ key_length)
         × (sum_at n 0 ≤ length response.now)
-        × (n - 2 ≤ length out.old) }
+        × (length out.old ≡ n - 2) }
     ensures { let id = id.entry.now in
         let mask_key = mask_key.now in
         let response = response.entry.now in
-        out.new ≡ put (n - 2) 0 (unmasked n id mask_key response) out.old }
+        out.new ≡ tab (n - 2) (unmasked n id mask_key response) }
 {
     lists::store(response, 1, out, 0, n - 2);
     mask::add_mask(

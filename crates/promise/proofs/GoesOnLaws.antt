@@ -1,6 +1,6 @@
 -- Demand 3 goes on, from every archive that follows a table. Assumes nothing.
 use Prim.Native.Nat.{ℕ, ◌+◌, ◌*◌, ◌<◌}
-use mathlib.Core.Path.{◌≡◌, refl, sym, subst, ◌∙◌}
+use mathlib.Core.Path.{◌≡◌, refl, sym, ap, subst, ◌∙◌}
 use mathlib.Core.List.{List}
 use native.Mathlib.Omega.{arith}
 use lib.ListN.{length}
@@ -12,11 +12,13 @@ use Rattle.answer.specs.declared.Outcome.TheVariants.{Done, Refused}
 use Rattle.answer.specs.Refusals.{afterwards}
 use Rattle.answer.proofs.RefusalLaws.{passed, after_done, differs_same}
 use Rattle.sizes.specs.declared.Sizes.{Sizes}
+use Rattle.archive.specs.Layout.{layout_of, sizes_of}
+use Rattle.archive.specs.Calls.{Call, archive_run}
 use Rattle.archive.specs.Told.{sizes_answer, stored_row, rows_answer, rows_out}
 use Rattle.promise.specs.Table.{Place, empty, filled, Table, all_empty, is_filled, element, written, table_run}
 use Rattle.promise.specs.Image.{Setting, image}
-use Rattle.promise.specs.Demand3.{Given, setting}
-use Rattle.promise.specs.Fresh.{fresh_calls}
+use Rattle.promise.specs.Demand3.{Given, setting, Admitted}
+use Rattle.promise.specs.Fresh.{fresh_calls, new_archive}
 use Rattle.promise.specs.Shares.{Follows, table_gather, table_gathered, GoesOn, Demand3GoesOn}
 use Rattle.promise.proofs.TableLaws.{Fine, AllFine, written_fine, run_fine}
 use Rattle.promise.proofs.ImageLaws.{image_sizes, image_layout, image_good, image_filled, image_byte, record_row}
@@ -40,8 +42,8 @@ module _ (g : Given) where
       go empty e = tt
       go (filled row) e = w.rows node place row e
 
-  pub is_image : (t : Table) (archive : List ℕ) → Follows o t archive → archive ≡ image o t
-  is_image t archive w = w.bytes g.lent (lent_length g) ∙ (encoded_is g t (rows-fine t archive w) g.lent (lent_length g)).1
+  is-image : (t : Table) (archive : List ℕ) → Follows o t archive → archive ≡ image o t
+  is-image t archive w = w.bytes g.lent (lent_length g) ∙ (encoded_is g t (rows-fine t archive w) g.lent (lent_length g)).1
 
   image-follows : (t : Table) → AllFine z t → Follows o t (image o t)
   image-follows t fine =
@@ -102,7 +104,7 @@ module _ (g : Given) where
             (w.0, subst (Follows o (table_run z t calls)) (sym w.1) (image-follows (table_run z t calls) (run_fine g t fine calls a)));
         gathers = λ u share node follows.
             let w = gathers g (fits g) t u node in
-            rw (is_image u share follows) (
+            rw (is-image u share follows) (
               w.0,
               subst (Follows o (table_gathered z t u node)) (sym w.1)
                   (image-follows (table_gathered z t u node) (gathered-fine t u node fine (rows-fine u share follows))),
@@ -116,5 +118,5 @@ demand3_goes_on g = (
   λ calls a.
       subst (Follows (setting g) (table_run g.z all_empty calls)) (sym (run_is g calls a))
       (image-follows g (table_run g.z all_empty calls) (run_fine g all_empty (λ node place. tt) calls a)),
-  λ t archive w. subst (GoesOn g t) (sym (is_image g t archive w)) (image-goes-on g t (rows-fine g t archive w)),
+  λ t archive w. subst (GoesOn g t) (sym (is-image g t archive w)) (image-goes-on g t (rows-fine g t archive w)),
 )

@@ -16,15 +16,14 @@ use Rattle.field.specs.Field.{sum, modulus, xtime, xtimes, times}
 use Rattle.keystream.specs.ChaCha.{half, quarter_of, set_four, quarter, quadruples, quarters_to, rounds, block_words, serialised, word_at, start, block_of}
 use Rattle.keystream.specs.Draws.{byte_at}
 use Rattle.bits.specs.Fields.{bit_of, bits_of, widths, number, packed, pack, bit_at, field_at}
-use Rattle.vector.specs.Vectors.{product, mixed, all_zero, joined}
+use Rattle.vector.specs.Vectors.{product, mixed, all_zero}
 use Rattle.tag.specs.KeyVector.{F1, key_vector}
 use Rattle.mask.specs.Setup.{setup_answer}
 use Rattle.mask.specs.Masks.{F2, mask_row, auxiliary, mask, mask_sum}
 use Rattle.message.specs.Response.{response_bytes, data_in}
 use Rattle.message.specs.Challenge.{items, challenge_bytes, out_of_rule, challenge_in, challenge_of, malformed_for}
 use Rattle.audit.specs.declared.Judgement.TheVariants.{Rejected, Refused as RefusedJudgement}
-use Rattle.audit.specs.Judging.{named_row, judge_for, fails, agrees, judgement}
-use Rattle.audit.specs.Verdict.{accepts, verdict_of}
+use Rattle.audit.specs.Verdict.{named_row, appended, fails, accepts, verdict_for, judgement, verdict_of}
 use Rattle.sizes.specs.Lengths.{record_length, place_count, place_number}
 use Rattle.sizes.specs.Sizes.{sizes_outside}
 use Rattle.archive.specs.Layout.{layout_outside, tag_field, layout_of, sizes_of, mark_at, byte_in, bad_for, with_marks, stored}
@@ -73,7 +72,7 @@ second_row = refl
 
 three_agree_lem : (three_agree (altered 0x01 (at (0x04 ∷ 0x00 ∷ 0x00 ∷ []))) ≡ false)
     × (three_agree (altered 0x01 (at (0x00 ∷ 0x2d ∷ 0x12 ∷ []))) ≡ false) × (three_agree (altered 0x01 (at (0x04 ∷ 0x2d ∷ 0x12 ∷ []))) ≡ true)
-unfolding accepts agrees fails any_below joined data_in product sum times xtimes xtime modulus tab
+unfolding accepts fails any_below appended data_in product sum times xtimes xtime modulus tab
 three_agree_lem = (refl, refl, refl)
 
 -- ---- combined rows that are zero
@@ -82,12 +81,12 @@ zero_rows : (of_zeros 0x24 (0x02 ∷ 0x03 ∷ 0x02 ∷ 0x03 ∷ []) (0x05 ∷ 0x
     × (of_zeros 0x24 (0x02 ∷ 0x03 ∷ 0x04 ∷ 0x06 ∷ []) (0x02 ∷ 0x01 ∷ []) ≡ RefusedJudgement ProvesNothing)
     × (of_zeros 0x24 (0x02 ∷ 0x03 ∷ 0x04 ∷ 0x05 ∷ []) (0x00 ∷ 0x00 ∷ []) ≡ RefusedJudgement ProvesNothing)
     × (of_zeros 0x22 (0x02 ∷ 0x03 ∷ 0x02 ∷ 0x03 ∷ []) (0x05 ∷ 0x05 ∷ []) ≡ RefusedJudgement Malformed)
-unfolding verdict_of judge_for judgement refuse outside sizes_outside any_of any_below challenge_bytes items challenge_of challenge_in malformed_for out_of_rule named_row all_zero mixed sum times xtimes xtime modulus tab pack packed bits_of bit_of widths number field_at bit_at
+unfolding verdict_of verdict_for judgement refuse outside sizes_outside any_of any_below challenge_bytes items challenge_of challenge_in malformed_for out_of_rule named_row all_zero mixed sum times xtimes xtime modulus tab pack packed bits_of bit_of widths number field_at bit_at
 zero_rows = (refl, refl, refl, refl)
 
 other_rows : (of_zeros 0x24 (0x02 ∷ 0x03 ∷ 0x02 ∷ 0x04 ∷ []) (0x05 ∷ 0x05 ∷ []) ≡ Rejected)
     × (of_zeros 0x24 (0x02 ∷ 0x03 ∷ 0x04 ∷ 0x03 ∷ []) (0x05 ∷ 0x05 ∷ []) ≡ Rejected) × (of_zeros 0x24 (0x02 ∷ 0x03 ∷ 0x02 ∷ 0x03 ∷ []) (0x05 ∷ 0x04 ∷ []) ≡ Rejected)
-unfolding verdict_of judge_for judgement refuse outside sizes_outside any_of any_below challenge_bytes items challenge_of challenge_in malformed_for out_of_rule named_row all_zero mixed sum times xtimes xtime modulus tab pack packed bits_of bit_of widths number field_at bit_at accepts agrees fails joined data_in product key_vector F1 byte_at half quarter_of set_four quarter quadruples quarters_to rounds block_words serialised word_at start block_of
+unfolding verdict_of verdict_for judgement refuse outside sizes_outside any_of any_below challenge_bytes items challenge_of challenge_in malformed_for out_of_rule named_row all_zero mixed sum times xtimes xtime modulus tab pack packed bits_of bit_of widths number field_at bit_at accepts fails appended data_in product key_vector F1 byte_at half quarter_of set_four quarter quadruples quarters_to rounds block_words serialised word_at start block_of
 other_rows = (refl, refl, refl)
 
 -- ---- a zero key vector
@@ -150,7 +149,7 @@ new_byte =
     ∙ image_number (setting given) (fits given) all_empty 0 0 (omega arith) (omega arith)
 
 first_byte : at (archive_after fresh first_call) 18 ≡ 0x57
-unfolding byte_in coded mixed source sum times xtimes xtime modulus joined
+unfolding byte_in coded mixed source sum times xtimes xtime modulus
 first_byte =
     ((demand3 given (first_call ∷ []) one_call).places 0 0 (0x01 ∷ 0x00 ∷ []) (omega arith) (omega arith) first_filled).block 0 (omega arith)
 
@@ -190,7 +189,7 @@ unfolding rows_out rows_answer stored_row flat tab put refuse afterwards any_of 
 no_row out e = rw e
 
 pub hollow : Hollow
-unfolding product sum times xtimes xtime modulus joined data_in named_row mixed coded source mask mask_sum auxiliary flat response_bytes pack packed bits_of bit_of widths number tab any_below fails accepts agrees named_byte byte_in
+unfolding product sum times xtimes xtime modulus appended data_in named_row mixed coded source mask mask_sum auxiliary flat response_bytes pack packed bits_of bit_of widths number tab any_below fails accepts named_byte byte_in
 hollow =
     record {
       without_mask_sum = refl;

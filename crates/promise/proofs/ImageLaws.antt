@@ -105,13 +105,13 @@ module _ (s : Setting) (F : Fit s) (t : Table) where
 
   -- source block i with its tags
   abbrev tagged : ℕ → ℕ → ℕ
-  tagged i = with_tags (block_length s.z) (vector s) (source s.z.n s.file s.padding i)
+  tagged i = with_tags (block_length s.z) (vector s) (source s.z s.file s.padding i)
 
   -- a record is the source blocks with their tags, combined by the row (zeros where empty)
   pub record_mixed : (x : Place) (e : ℕ) → place_record s x e ≡ mixed s.z.m (element x) tagged e
   unfolding coded_record coded
   record_mixed empty e = sym (mixed_zero s.z.m tagged e)
-  record_mixed (filled row) e = tags_combine (block_length s.z) s.z.m (at row) (source s.z.n s.file s.padding) (vector s) e
+  record_mixed (filled row) e = tags_combine (block_length s.z) s.z.m (at row) (source s.z s.file s.padding) (vector s) e
 
   module _ (helpers : List ℕ) (q : ℕ) (gammas thetas : List ℕ) (there : (i : ℕ) → i < length helpers → at helpers i < s.z.nodes) where
     repair-same : (k : ℕ) (x y : ℕ → ℕ → ℕ) → ((node l : ℕ) → node < s.z.nodes → l < s.z.places → x node l ≡ y node l)

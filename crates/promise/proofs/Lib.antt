@@ -16,12 +16,10 @@ pub mod LoseRunLaws
 pub mod LossesReads
 pub mod WholeLaws
 pub mod GoesOnLaws
-pub mod OwnAuditLaws
 pub mod Each
 pub mod ListedLosses
 pub mod LifeLosses
 pub mod LifeShares
-pub mod LifeOwnAudit
 pub mod Life
 pub mod Worked
 pub mod PlanCases

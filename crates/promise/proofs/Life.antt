@@ -21,7 +21,7 @@ use Rattle.keystream.specs.Draws.{byte_at}
 use Rattle.bits.specs.Fields.{bit_of, bits_of, widths, number, packed, pack}
 use Rattle.sizes.specs.Sizes.{sizes_outside}
 use Rattle.sizes.specs.Lengths.{archive_length, response_length}
-use Rattle.vector.specs.Vectors.{product, mixed, all_zero, joined}
+use Rattle.vector.specs.Vectors.{product, mixed, all_zero}
 use Rattle.tag.specs.KeyVector.{F1, key_vector, with_tags}
 use Rattle.tag.specs.Vector.{vector_answer, vector_out}
 use Rattle.mask.specs.Masks.{F2, F3, mask_row, mask_coefficient, auxiliary, mask, mask_sum}
@@ -42,14 +42,13 @@ use Rattle.promise.specs.Image.{image}
 use Rattle.promise.specs.Demand3.{Given, TakesOne, Admitted, setting, given_auxiliary, Honest, message, Telling, Silent, named_block, expected, table_filled, Demand}
 use Rattle.promise.specs.Fresh.{fresh_calls}
 use Rattle.promise.specs.Life as L
-use Rattle.promise.specs.Life.{Numbers, calls, table, archive, alone, Shared, OwnAudited, Lived}
+use Rattle.promise.specs.Life.{Numbers, calls, table, archive, alone, Shared, Lived}
 use Rattle.promise.proofs.ImageLaws.{record_over, image_over}
 use Rattle.promise.proofs.DemandLaws.{demand3, from_new, run_is}
 use Rattle.promise.proofs.FreshLaws.{reopens}
 use Rattle.promise.proofs.Each.{Each, each, bytes_each}
 use Rattle.promise.proofs.LifeLosses.{LossesAre, losses_are}
-use Rattle.promise.proofs.LifeShares.{shared, Joined, node_joined}
-use Rattle.promise.proofs.LifeOwnAudit.{own_audited}
+use Rattle.promise.proofs.LifeShares.{shared, Joined, joined}
 
 -- ---- what is computed, of both lives
 
@@ -319,8 +318,8 @@ module _ (w : Numbers) (o : Opens w) (u : SetsUp w) where
           expected_by x = response_for 3 w.tags L.id L.mask_key x (audited f).seed 2 block (λ s. product 5 block (key_vector L.tag_key L.id s))
 
   life : Answers w × FreshAnswers w → (f : Filled w) → Rows w → Shelf w → Vectors w → Images → FreshCalls → Elements → Expected f → LossesAre w.archive_bytes → Shared w w.archive_bytes
-      → Joined w → OwnAudited w → Lived w
-  life answers f rows shelved vectors images fresh_encodes elements response losses shared joins own =
+      → Joined w → Lived w
+  life answers f rows shelved vectors images fresh_encodes elements response losses shared joins =
       let d : Demand lives (calls w.tags) (table w.tags) (archive w.layout w.tags) = demand3 lives (calls w.tags) life-admitted in
       let sends = (d.audits (audited f)).sends ∙ response in
       let telling : Telling lives (table w.tags) (archive w.layout w.tags) (audited f) =
@@ -350,7 +349,6 @@ module _ (w : Numbers) (o : Opens w) (u : SetsUp w) where
         silent_message = (messages f).1;
         silent = silent-row rows f;
         unproved = d.unproved (audited_silent f) (silent-row rows f) _ refl refl;
-        own = own;
       }
 
 abbrev pub given : Given
@@ -358,7 +356,7 @@ given = lives L.one opens.0 sets_up.0
 
 -- the images are computed over the vectors' bytes
 images_over : ImagesOver L.one opens.0 sets_up.0 vectors.0 (lit≤ tt) × ImagesOver L.three opens.1 sets_up.1 vectors.1 (lit≤ tt)
-unfolding archive_of tag_field packed pack bits_of bit_of widths number flat tab numbered answer_for refuse any_of any_below outside afterwards written over repaired_row coded_record coded source with_tags product mixed sum times xtimes xtime modulus joined
+unfolding archive_of tag_field packed pack bits_of bit_of widths number flat tab numbered answer_for refuse any_of any_below outside afterwards written over repaired_row coded_record coded source with_tags product mixed sum times xtimes xtime modulus
 images_over = ((refl, refl, refl, refl), (refl, refl, refl, refl))
 
 -- the calls that a fresh archive takes
@@ -373,7 +371,7 @@ elements = (refl, refl)
 -- and so are the responses, over Setup's bytes too
 responses_over : ExpectedOver L.one opens.0 sets_up.0 vectors.0 (lit≤ tt) all_filled.0
     × ExpectedOver L.three opens.1 sets_up.1 vectors.1 (lit≤ tt) all_filled.1
-unfolding response_for response_bytes mask mask_sum mask_coefficient F3 answer_for written over repaired_row coded source mixed afterwards refuse outside any_of any_below mask_row F2 product tab pack packed bits_of bit_of widths number byte_at half quarter_of set_four quarter quadruples quarters_to rounds block_words serialised word_at start block_of sum times xtimes xtime modulus joined
+unfolding response_for response_bytes mask mask_sum mask_coefficient F3 answer_for written over repaired_row coded source mixed afterwards refuse outside any_of any_below mask_row F2 product tab pack packed bits_of bit_of widths number byte_at half quarter_of set_four quarter quadruples quarters_to rounds block_words serialised word_at start block_of sum times xtimes xtime modulus
 responses_over = (refl, refl)
 
 pub lived : Lived L.one × Lived L.three
@@ -381,9 +379,9 @@ lived = (
   life L.one opens.0 sets_up.0 table_answers_lem.0 all_filled.0 rows.0 shelves.0 vectors.0
       (images-of L.one opens.0 sets_up.0 vectors.0 (lit≤ tt) images_over.0) fresh_calls_are.0 elements.0
       (expected-of L.one opens.0 sets_up.0 vectors.0 (lit≤ tt) all_filled.0 elements.0 responses_over.0)
-      losses_are.0 shared.0 node_joined.0 (own_audited.0 (vector-same L.one opens.0 sets_up.0 vectors.0 (lit≤ tt))),
+      losses_are.0 shared.0 joined.0,
   life L.three opens.1 sets_up.1 table_answers_lem.1 all_filled.1 rows.1 shelves.1 vectors.1
       (images-of L.three opens.1 sets_up.1 vectors.1 (lit≤ tt) images_over.1) fresh_calls_are.1 elements.1
       (expected-of L.three opens.1 sets_up.1 vectors.1 (lit≤ tt) all_filled.1 elements.1 responses_over.1)
-      losses_are.1 shared.1 node_joined.1 (own_audited.1 (vector-same L.three opens.1 sets_up.1 vectors.1 (lit≤ tt))),
+      losses_are.1 shared.1 joined.1,
 )

@@ -35,6 +35,6 @@ Joined w =
     (gather_answer (alone w.tags 0x30 1 w.archive_bytes) (alone w.tags 0x0c 2 w.archive_bytes) 2 ≡ Done)
     × (gather_after (alone w.tags 0x30 1 w.archive_bytes) (alone w.tags 0x0c 2 w.archive_bytes) 2 ≡ w.archive_bytes)
 
-pub node_joined : Joined L.one × Joined L.three
+pub joined : Joined L.one × Joined L.three
 unfolding gather_answer gather_after other_archive tab refuse afterwards any_of any_below outside sizes_outside bad_for layout_outside tag_field layout_of sizes_of field_at bit_at number mark_at byte_in with_marks stored put grid packed over
-node_joined = ((refl, refl), (refl, refl))
+joined = ((refl, refl), (refl, refl))

@@ -70,7 +70,7 @@ module _ (s lent sets : List ℕ) (k count set : ℕ) (w : LossesAllows s k lent
   hurts : Stands count sets set → Hurts z s set
   hurts (j, h, e) = subst (Hurts z s) e (w.1.only j h).1
 
-  read : (out : List ℕ) (answer : Counted) (file : List ℕ) → length out ≡ file_length z.n z.m → ReadAllows t out answer file → Shown answer
+  read : (out : List ℕ) (answer : Counted) (file : List ℕ) → length out ≡ file_length z → ReadAllows t out answer file → Shown answer
   read out answer file long allows = go answer (subst (λ (x : Sizes). ReadFor x t out answer file) (sym run.sizes) allows)
     where
       go : (answer : Counted) → ReadFor z t out answer file → Shown answer

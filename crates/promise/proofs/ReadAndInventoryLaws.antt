@@ -151,8 +151,8 @@ module _ (s : Setting) (F : Fit s) (t : Table) (fine : AllFine s.z t) where
       ((counted_number answer ≡ 8) ↔ Blind s.z is_f row)
       × ((¬ Blind s.z is_f row) → (counted_number answer ≡ 0) × (file ≡ s.file) × ((old : ℕ) → Enough s.z is_f row (counted_value answer old)))
 
-  pub read : length s.file ≡ file_length s.z.n s.z.m → Bytes s.file
-      → (out : List ℕ) (answer : Counted) (file : List ℕ) → length out ≡ file_length s.z.n s.z.m → ReadAllows A out answer file → Answered answer file
+  pub read : length s.file ≡ file_length s.z → Bytes s.file
+      → (out : List ℕ) (answer : Counted) (file : List ℕ) → length out ≡ file_length s.z → ReadAllows A out answer file → Answered answer file
   read size bytes out answer file long allows = go answer (subst (λ (z : Sizes). ReadFor z A out answer file) (image_sizes s F t) allows)
     where
       go : (answer : Counted) → ReadFor s.z A out answer file → Answered answer file

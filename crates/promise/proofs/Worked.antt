@@ -16,14 +16,13 @@ use Rattle.field.proofs.InverseLaws.{times_cancel}
 use Rattle.bits.specs.Fields.{bit_of, bits_of, widths, number, packed, pack, bit_at, field_at}
 use Rattle.sizes.specs.declared.Sizes.{Sizes}
 use Rattle.sizes.specs.Sizes.{sizes_outside}
-use Rattle.vector.specs.Vectors.{product, mixed, joined}
+use Rattle.vector.specs.Vectors.{product, mixed}
 use Rattle.vector.specs.Taken.{Combined}
 use Rattle.tag.specs.KeyVector.{with_tags}
 use Rattle.mask.specs.Masks.{auxiliary, mask, mask_sum}
 use Rattle.message.specs.Response.{response_bytes, data_in}
 use Rattle.message.specs.Challenge.{items, challenge_bytes, out_of_rule, challenge_answer, challenge_out}
-use Rattle.audit.specs.Judging.{named_row, fails, agrees}
-use Rattle.audit.specs.Verdict.{accepts}
+use Rattle.audit.specs.Verdict.{named_row, appended, fails, accepts}
 use Rattle.archive.specs.Layout.{layout_outside, tag_field, layout_of, sizes_of, mark_at, byte_in, bad_for}
 use Rattle.archive.specs.Blocks.{source, coded, coded_record}
 use Rattle.archive.specs.Prove.{named_byte}
@@ -181,7 +180,7 @@ reads_one =
 -- ---- the table
 
 pub worked : W.Worked
-unfolding sum times xtimes xtime modulus inverse_of last with_tags product source mixed coded coded_record tab flat auxiliary mask mask_sum response_bytes data_in pack packed bits_of bit_of widths number items challenge_bytes challenge_answer challenge_out out_of_rule refuse outside afterwards any_of any_below named_row joined fails accepts agrees named_byte byte_in
+unfolding sum times xtimes xtime modulus inverse_of last with_tags product source mixed coded coded_record tab flat auxiliary mask mask_sum response_bytes data_in pack packed bits_of bit_of widths number items challenge_bytes challenge_answer challenge_out out_of_rule refuse outside afterwards any_of any_below named_row appended fails accepts named_byte byte_in
 worked =
     record {
       product_83 = refl;

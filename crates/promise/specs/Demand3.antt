@@ -37,10 +37,10 @@ pub record Given : Type 0 where
   pub lent : List ℕ
   pub open_done : open_answer layout z id lent ≡ Done
   pub file : List ℕ
-  pub file_size : length file ≡ file_length z.n z.m
+  pub file_size : length file ≡ file_length z
   pub file_bytes : Bytes file
   pub padding : List ℕ
-  pub padding_size : length padding ≡ padding_length z.m
+  pub padding_size : length padding ≡ padding_length z
   -- Setup accepted both keys, for this id, n and number of tags
   pub tag_key : List ℕ
   pub mask_key : List ℕ
@@ -189,7 +189,7 @@ pub record Demand (g : Given) (calls : List Call) (t : Table) (archive : List �
       → says g t archive h other ≡ Refused ProvesNothing
   -- Read, lent the file's length, gives back the file, or refuses with 8 if and only if the table's rows leave something open; the
   -- places that it consulted are enough of the table's too
-  pub read : (out : List ℕ) (answer : Counted) (file : List ℕ) → length out ≡ file_length g.z.n g.z.m → ReadAllows archive out answer file
+  pub read : (out : List ℕ) (answer : Counted) (file : List ℕ) → length out ≡ file_length g.z → ReadAllows archive out answer file
       → ((counted_number answer ≡ 8) ↔ TableBlind g.z t)
       × ((¬ TableBlind g.z t)
       → (counted_number answer ≡ 0) × (file ≡ g.file)

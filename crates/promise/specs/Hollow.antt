@@ -5,15 +5,14 @@ use Rattle.lists.specs.Lists.{at, tab, put, how_many}
 use Rattle.answer.specs.declared.Outcome.TheVariants.{Done, Refused as RefusedOutcome}
 use Rattle.answer.specs.declared.Refusal.TheVariants.{BadArchive, PlaceFilled, Unreadable, ZeroKeyVector, Malformed, ProvesNothing}
 use Rattle.field.specs.Field.{plus}
-use Rattle.vector.specs.Vectors.{product, joined}
+use Rattle.vector.specs.Vectors.{product}
 use Rattle.mask.specs.Masks.{mask_row}
 use Rattle.mask.specs.Setup.{setup_answer}
-use Rattle.message.specs.Response.{data_in, tag_in}
+use Rattle.message.specs.Response.{tag_in}
 use Rattle.message.specs.Challenge.{challenge_for, challenge_bytes}
 use Rattle.audit.specs.declared.Judgement.{Judgement}
 use Rattle.audit.specs.declared.Judgement.TheVariants.{Rejected, Refused as RefusedJudgement}
-use Rattle.audit.specs.Judging.{named_row}
-use Rattle.audit.specs.Verdict.{accepts, verdict_of}
+use Rattle.audit.specs.Verdict.{named_row, appended, accepts, verdict_of}
 use Rattle.sizes.specs.Lengths.{record_length, place_number, place_count}
 use Rattle.archive.specs.Layout.{sizes_of, mark_at, byte_in, with_marks}
 use Rattle.archive.specs.Open.{open_out}
@@ -61,7 +60,7 @@ zero_second = tab 30 (λ i. 0) ++ (0x01 ∷ 0x1f ∷ [])
 
 pub record Hollow : Type 0 where
   -- the tag compared alone, without the mask sum: an honest response would be rejected (`audits`)
-  pub without_mask_sum : eqb (product 5 (joined 3 (data_in 3 1 W.response) W.combined) (W.vectors 0)) (tag_in 3 1 W.response 0) ≡ false
+  pub without_mask_sum : eqb (product 5 (appended 3 1 W.response W.combined) (W.vectors 0)) (tag_in 3 1 W.response 0) ≡ false
   -- rows that come from the box, so that it may replay old blocks: against other rows the response is rejected
   pub replayed : accepts W.z W.vectors (named_row W.z (0x01 ∷ 0x00 ∷ []) W.challenge) W.response ≡ false
   -- a Repair that combines data and copies a row: the repaired row is no helper's row (`rows`)

@@ -6,7 +6,6 @@ pub mod Plans
 pub mod Losing
 pub mod Fresh
 pub mod Shares
-pub mod OwnAudit
 pub mod Life
 pub mod Worked
 pub mod SmallCases

@@ -10,10 +10,7 @@ use Rattle.sizes.specs.declared.Sizes.{Sizes}
 use Rattle.sizes.specs.Lengths.{record_length, archive_length, record_start, auxiliary_length}
 use Rattle.tag.specs.Vector.{vector_out}
 use Rattle.mask.specs.Setup.{setup_answer}
-use Rattle.audit.specs.declared.Judgement.TheVariants.{Accepted, Rejected, Refused as RefusedJudgement}
-use Rattle.audit.specs.Verdict.{verdict_of}
-use Rattle.examining.specs.Prints.{prints_answer, prints_out}
-use Rattle.examining.specs.Examine.{examine_of}
+use Rattle.audit.specs.declared.Judgement.TheVariants.{Accepted, Refused as RefusedJudgement}
 use Rattle.archive.specs.Layout.{layout_of, sizes_of}
 use Rattle.archive.specs.Open.{open_answer, open_out}
 use Rattle.archive.specs.Gather.{gather_answer, gather_after}
@@ -43,12 +40,6 @@ mask_key =
     0x64 ∷ 0x65 ∷ 0x66 ∷ 0x67 ∷ 0x68 ∷ 0x69 ∷ 0x6a ∷ 0x6b ∷ 0x6c ∷ 0x6d ∷ 0x6e ∷ 0x6f ∷ 0x70 ∷ 0x71 ∷ 0x72 ∷ 0x73 ∷ 0x74 ∷ 0x75
     ∷ 0x76 ∷ 0x77 ∷ 0x78 ∷ 0x79 ∷ 0x7a ∷ 0x7b ∷ 0x7c ∷ 0x7d ∷ 0x7e ∷ 0x7f ∷ 0x80 ∷ 0x81 ∷ 0x82 ∷ 0x83 ∷ []
 
--- the owner's check key
-abbrev pub check_key : List ℕ
-check_key =
-    0xc8 ∷ 0xc9 ∷ 0xca ∷ 0xcb ∷ 0xcc ∷ 0xcd ∷ 0xce ∷ 0xcf ∷ 0xd0 ∷ 0xd1 ∷ 0xd2 ∷ 0xd3 ∷ 0xd4 ∷ 0xd5 ∷ 0xd6 ∷ 0xd7 ∷ 0xd8 ∷ 0xd9
-    ∷ 0xda ∷ 0xdb ∷ 0xdc ∷ 0xdd ∷ 0xde ∷ 0xdf ∷ 0xe0 ∷ 0xe1 ∷ 0xe2 ∷ 0xe3 ∷ 0xe4 ∷ 0xe5 ∷ 0xe6 ∷ 0xe7 ∷ []
-
 abbrev pub file : List ℕ
 file =
     0x57 ∷ 0x01 ∷ []
@@ -56,12 +47,6 @@ file =
 abbrev pub padding : List ℕ
 padding =
     0x01 ∷ 0x00 ∷ 0x00 ∷ 0x04 ∷ []
-
--- the prints of both source blocks
-abbrev pub print_bytes : List ℕ
-print_bytes =
-    0x2c ∷ 0x12 ∷ 0xe2 ∷ 0xc8 ∷ 0xbd ∷ 0x3f ∷ 0x50 ∷ 0xfa ∷ 0xe1 ∷ 0x3d
-    ∷ 0x1f ∷ 0xd9 ∷ 0x68 ∷ 0x6f ∷ 0xe8 ∷ 0x09 ∷ 0xee ∷ 0x4a ∷ 0x5e ∷ 0xe4 ∷ []
 
 abbrev pub gammas : List ℕ
 gammas =
@@ -136,8 +121,6 @@ pub record Numbers : Type 0 where
   pub vector_bytes : List ℕ
   pub auxiliary_bytes : List ℕ
   pub response_bytes : List ℕ
-  -- that response with its masked byte changed by 01, and each mask sum by the first element of the tag's vector
-  pub altered_bytes : List ℕ
 
 abbrev pub one : Numbers
 one =
@@ -153,8 +136,6 @@ one =
       auxiliary_bytes = 0xa7 ∷ 0xaa ∷ [];
       response_bytes =
           0x24 ∷ 0x2a ∷ 0x00 ∷ 0x14 ∷ 0x28 ∷ 0x3c ∷ 0x50 ∷ 0x64 ∷ 0x78 ∷ 0x8c ∷ 0xa0 ∷ 0xb4 ∷ 0xc8 ∷ 0x63 ∷ 0xc8 ∷ 0x55 ∷ 0x4d ∷ [];
-      altered_bytes =
-          0x24 ∷ 0x2b ∷ 0x00 ∷ 0x14 ∷ 0x28 ∷ 0x3c ∷ 0x50 ∷ 0x64 ∷ 0x78 ∷ 0x8c ∷ 0xa0 ∷ 0xb4 ∷ 0xc8 ∷ 0x67 ∷ 0xc8 ∷ 0x55 ∷ 0x4d ∷ [];
     }
 
 abbrev pub three : Numbers
@@ -172,9 +153,6 @@ three =
       auxiliary_bytes = 0xa7 ∷ 0xaa ∷ 0xd2 ∷ 0x65 ∷ 0x74 ∷ 0xcb ∷ [];
       response_bytes =
           0x24 ∷ 0x2a ∷ 0x00 ∷ 0x14 ∷ 0x28 ∷ 0x3c ∷ 0x50 ∷ 0x64 ∷ 0x78 ∷ 0x8c ∷ 0xa0 ∷ 0xb4 ∷ 0xc8 ∷ 0x63 ∷ 0xce ∷ 0x2b ∷ 0xc8 ∷ 0x55 ∷ 0x4d
-          ∷ 0xfd ∷ 0x76 ∷ [];
-      altered_bytes =
-          0x24 ∷ 0x2b ∷ 0x00 ∷ 0x14 ∷ 0x28 ∷ 0x3c ∷ 0x50 ∷ 0x64 ∷ 0x78 ∷ 0x8c ∷ 0xa0 ∷ 0xb4 ∷ 0xc8 ∷ 0x67 ∷ 0xe3 ∷ 0x39 ∷ 0xc8 ∷ 0x55 ∷ 0x4d
           ∷ 0xfd ∷ 0x76 ∷ [];
     }
 
@@ -199,22 +177,6 @@ pub record Shared (w : Numbers) (s : List ℕ) : Type 0 where
   pub shares_are : (share_of s 1 ≡ alone w.tags 0x30 1 s) × (share_of s 2 ≡ alone w.tags 0x0c 2 s)
   -- the shares of all three, gathered from the last to the first
   pub whole_again : GathersDone s (keeping s []) (2 ∷ 1 ∷ 0 ∷ []) × (gather_run s (keeping s []) (2 ∷ 1 ∷ 0 ∷ []) ≡ s)
-
--- the owner's own audit at the end of the life: of node 2, whose rows are f3 fe and 72 fb, by the challenge below
-pub record OwnAudited (w : Numbers) : Type 0 where
-  -- whatever Prints is lent
-  pub prints_are : (lent : List ℕ) → length lent ≡ 20
-      → (prints_answer check_key id 3 2 file padding lent ≡ Done) × (prints_out check_key id 3 2 file padding lent ≡ print_bytes)
-  -- the honest response is accepted; the altered one is by Verdict, and not by Examine
-  pub examined : examine_of check_key mask_key id (z w.tags) print_bytes (0xf3 ∷ 0xfe ∷ 0x72 ∷ 0xfb ∷ [])
-      (0x14 ∷ 0x40 ∷ 0x1c ∷ 0xda ∷ 0x80 ∷ []) w.response_bytes ≡ Accepted
-  pub deceived : verdict_of tag_key id (z w.tags) (0xf3 ∷ 0xfe ∷ 0x72 ∷ 0xfb ∷ [])
-      (0x14 ∷ 0x40 ∷ 0x1c ∷ 0xda ∷ 0x80 ∷ []) w.altered_bytes ≡ Accepted
-  pub found_out : examine_of check_key mask_key id (z w.tags) print_bytes (0xf3 ∷ 0xfe ∷ 0x72 ∷ 0xfb ∷ [])
-      (0x14 ∷ 0x40 ∷ 0x1c ∷ 0xda ∷ 0x80 ∷ []) w.altered_bytes ≡ Rejected
-  -- of place 1 of node 1, which holds the row 00 00, nothing is proved
-  pub nothing_proved : examine_of check_key mask_key id (z w.tags) print_bytes (0x53 ∷ 0xca ∷ 0x00 ∷ 0x00 ∷ []) (0x12 ∷ 0x24 ∷ 0x04 ∷ [])
-      (0x22 ∷ drop 1 w.response_bytes) ≡ RefusedJudgement ProvesNothing
 
 pub record Lived (w : Numbers) : Type 0 where
   pub opens : open_answer w.layout (z w.tags) id (lent w.tags) ≡ Done
@@ -266,5 +228,3 @@ pub record Lived (w : Numbers) : Type 0 where
   pub unproved : says (given w.layout w.tags opens sets_up file_bytes) (table w.tags) (archive w.layout w.tags) silent_audit
       (sent (given w.layout w.tags opens sets_up file_bytes) (table w.tags) (archive w.layout w.tags) silent_audit)
       ≡ RefusedJudgement ProvesNothing
-  -- and the owner's own
-  pub own : OwnAudited w

@@ -26,6 +26,6 @@ abbrev pub LossesAreReads : Type 0
 LossesAreReads =
     (s lent sets : List ℕ) (k count set : ℕ) → LossesAllows s k lent (Count count) sets → SetOf (sizes_of s) k set
     → (archive_answers s (loses (nodes_in set)) ≡ all_done (loses (nodes_in set)))
-    × ((out : List ℕ) (answer : Counted) (file : List ℕ) → length out ≡ file_length (sizes_of s).n (sizes_of s).m
+    × ((out : List ℕ) (answer : Counted) (file : List ℕ) → length out ≡ file_length (sizes_of s)
     → ReadAllows (archive_run s (loses (nodes_in set))) out answer file
     → ((counted_number answer ≡ 8) ↔ Stands count sets set) × ((¬ Stands count sets set) → counted_number answer ≡ 0))

@@ -5,12 +5,11 @@ use Rattle.answer.specs.declared.Refusal.TheVariants.{Unreadable}
 use Rattle.answer.specs.Numbers.{outcome_number}
 use Rattle.field.specs.Field.{plus, times, inverse_of}
 use Rattle.sizes.specs.declared.Sizes.{Sizes}
-use Rattle.vector.specs.Vectors.{product, joined}
+use Rattle.vector.specs.Vectors.{product}
 use Rattle.mask.specs.Masks.{auxiliary, mask, mask_sum}
-use Rattle.message.specs.Response.{response_bytes, data_in, sum_in, tag_in}
+use Rattle.message.specs.Response.{response_bytes, sum_in, tag_in}
 use Rattle.message.specs.Challenge.{Challenge, challenge_answer, challenge_out}
-use Rattle.audit.specs.Judging.{named_row}
-use Rattle.audit.specs.Verdict.{accepts}
+use Rattle.audit.specs.Verdict.{named_row, appended, accepts}
 use Rattle.archive.specs.Blocks.{source, coded_record}
 use Rattle.archive.specs.Prove.{named_byte}
 use Rattle.archive.specs.Read.{ReadAllows}
@@ -81,8 +80,8 @@ pub record Worked : Type 0 where
   pub inverse_53 : inverse_of 0x53 ≡ 0xca
   pub inverse_00 : inverse_of 0x00 ≡ 0x00
   -- the source blocks b1 and b2, with their tags
-  pub b1 : tab 6 (with_tags 5 vectors (source z.n file padding 0)) ≡ 0x57 ∷ 0x01 ∷ 0x00 ∷ 0x01 ∷ 0x00 ∷ 0xc0 ∷ []
-  pub b2 : tab 6 (with_tags 5 vectors (source z.n file padding 1)) ≡ 0x01 ∷ 0x00 ∷ 0x04 ∷ 0x00 ∷ 0x01 ∷ 0x82 ∷ []
+  pub b1 : tab 6 (with_tags 5 vectors (source z file padding 0)) ≡ 0x57 ∷ 0x01 ∷ 0x00 ∷ 0x01 ∷ 0x00 ∷ 0xc0 ∷ []
+  pub b2 : tab 6 (with_tags 5 vectors (source z file padding 1)) ≡ 0x01 ∷ 0x00 ∷ 0x04 ∷ 0x00 ∷ 0x01 ∷ 0x82 ∷ []
   -- their combination by 02 and 03, with its tag
   pub combination : tab 6 (coded_record z vectors file padding row) ≡ 0xad ∷ 0x02 ∷ 0x0c ∷ 0x02 ∷ 0x03 ∷ 0x06 ∷ []
   -- the tags c0 and 82 combined by the same coefficients
@@ -93,7 +92,7 @@ pub record Worked : Type 0 where
   pub sum_4c : mask_sum 3 coefficients (0xb9 ∷ 0xf7 ∷ []) 0 ≡ 0x4c
   -- the response, and both sides of what Verdict compares
   pub response_is : response ≡ bytes 0xba 0x4c 0x02 0x0c 0x06
-  pub left : product 5 (joined 3 (data_in 3 1 response) combined) (vectors 0) ≡ 0x4a
+  pub left : product 5 (appended 3 1 response combined) (vectors 0) ≡ 0x4a
   pub right : plus (tag_in 3 1 response 0) (sum_in 3 response 0) ≡ 0x4a
   pub accepted : accepts z vectors combined response ≡ true
   -- one change is found; two that add up are not

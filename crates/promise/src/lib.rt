@@ -9,7 +9,6 @@ ghost use Rattle.promise.specs.Plans.{PlanIsFixed, PlannedRepair, NoThetas, Plan
 ghost use Rattle.promise.specs.Losing.{LossesAreFixed, LossesAreReads};
 ghost use Rattle.promise.specs.Fresh.{RebuiltIsFresh, TableFixesBytes};
 ghost use Rattle.promise.specs.Shares.{GatheredIsWhole, Demand3GoesOn};
-ghost use Rattle.promise.specs.OwnAudit.{OwnAudit};
 
 // Demand 3: a single claim about every list of Encode, Lose and Repair calls.
 pub fn demand3()
@@ -34,11 +33,6 @@ pub fn gathered_is_whole()
 // Demand 3 goes on: after calls and gathers, in any order, the archive follows the row table.
 pub fn demand3_goes_on()
     ensures { Demand3GoesOn }
-{}
-
-// The owner's own audit: what Examine says of every response, after every list of calls.
-pub fn own_audit()
-    ensures { OwnAudit }
 {}
 
 // Unmasking gives the block that was masked, for every archive.

@@ -44,7 +44,7 @@ module _ (z : Sizes) (s : List ℕ) (c : Chosen) (chosen : ChosenIn z s (mark_at
         ∙ reduced.solves full all column (λ j l. low _) r h
 
     -- the file is a solution
-    solved : (out : List ℕ) {file : List ℕ} → length out ≡ file_length z.n z.m → file ≡ grid z.m (z.n - 2) 0 block out → Solved z s file
+    solved : (out : List ℕ) {file : List ℕ} → length out ≡ file_length z → file ≡ grid z.m (z.n - 2) 0 block out → Solved z s file
     solved out size written = rw (written ∙ grid_all z.m (z.n - 2) block out size) made
       where
         taken : ℕ → Bool
@@ -67,10 +67,10 @@ module _ (z : Sizes) (s : List ℕ) (c : Chosen) (chosen : ChosenIn z s (mark_at
 
   -- ---- the answers
 
-  module _ (out : List ℕ) (good : bad_archive s ≡ false) (read : z ≡ sizes_of s) (size : length out ≡ file_length (sizes_of s).n (sizes_of s).m) where
+  module _ (out : List ℕ) (good : bad_archive s ≡ false) (read : z ≡ sizes_of s) (size : length out ≡ file_length (sizes_of s)) where
     -- nothing is refused before
     not_before : read_before z s out ≡ Done
-    not_before = passed _ _ good ∙ passed _ _ (differs_same (size ∙ sym (ap (λ (x : Sizes). file_length x.n x.m) read)))
+    not_before = passed _ _ good ∙ passed _ _ (differs_same (size ∙ sym (ap file_length read)))
 
     -- rank below m
     pub refuses : rank < z.m → ReadAllows s out (Refused Unreadable) out

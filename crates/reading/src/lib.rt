@@ -13,7 +13,7 @@ use solving::solve;
 
 // The file and the number of places consulted, where the rows determine it.
 fn read_file(archive: &[u8], file: &mut [u8]) -> Counted
-    requires { (bad_archive archive.now ≡ false) × (length file.old ≡ file_length (sizes_of archive.now).n (sizes_of archive.now).m) }
+    requires { (bad_archive archive.now ≡ false) × (length file.old ≡ file_length (sizes_of archive.now)) }
     ensures { ReadAllows archive.now file.old result file.new }
 {
     let z = archive::sizes_in(archive);

@@ -48,7 +48,7 @@ pub fn solve(
     requires { (sizes_outside z ≡ false)
         × ((t : ℕ) → t < z.m → at places t < place_count z)
         × (length archive.now ≡ archive_length z)
-        × (length file.old ≡ file_length z.n z.m) }
+        × (length file.old ≡ file_length z) }
     ensures { let archive = archive.entry.now in
         file.new
         ≡ grid z.m (z.n - 2) 0 (λ i. mixed z.m (cells combinations i) (λ t. byte_in z archive (at places t))) file.old }

@@ -6,10 +6,6 @@ use Rattle.sizes.specs.declared.Sizes.{Sizes}
 use Rattle.sizes.proofs.SizeLaws.{Ranged}
 use Rattle.sizes.specs.Lengths.{n_most, m_most, places_most, nodes_most, mark_count, place_count, file_length, record_length, archive_length, place_number, record_start}
 
--- a month's file is short
-pub short_file : (n m : ℕ) → n ≤ n_most → m ≤ m_most → file_length n m ≤ m_most * n_most
-short_file n m high few = mul-le-mul {n₂ = m_most} {m₂ = n_most} few (omega arith)
-
 module _ (z : Sizes) (R : Ranged z) where
   pub number_low : (node place : ℕ) → node < z.nodes → place < z.places → place_number z node place < place_count z
   number_low node place h hp = omega (arith, mul-le-mul_right z.places h)
@@ -24,8 +20,8 @@ module _ (z : Sizes) (R : Ranged z) where
   pub marks_in : (node : ℕ) → node < z.nodes → node * z.places + z.places ≤ mark_count
   marks_in node h = omega (arith, mul-le-mul_right z.places h, count_low)
 
-  pub file_low : file_length z.n z.m ≤ m_most * n_most
-  file_low = short_file z.n z.m R.n_high R.m_high
+  pub file_low : file_length z ≤ m_most * n_most
+  file_low = mul-le-mul {n₂ = m_most} {m₂ = n_most} R.m_high (omega (arith, R.n_high))
 
   -- the node and the place of a number
   pub node_of : (k : ℕ) → k < place_count z → k / z.places < z.nodes

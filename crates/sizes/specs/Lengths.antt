@@ -99,23 +99,13 @@ place_number z node place = node * z.places + place
 abbrev pub record_start : (z : Sizes) (k : ℕ) → ℕ
 record_start z k = header_length + k * record_length z
 
--- ---- a month's file, its padding, its prints, the auxiliary elements
+-- ---- a month's file, its padding, the auxiliary elements
 
-abbrev pub file_length : (n m : ℕ) → ℕ
-file_length n m = m * (n - 2)
+abbrev pub file_length : (z : Sizes) → ℕ
+file_length z = z.m * (z.n - 2)
 
-abbrev pub padding_length : (m : ℕ) → ℕ
-padding_length m = 2 * m
-
--- ten prints for each source block, whatever the number of tags; print s of block i, both counted from 0
-abbrev pub print_count : ℕ
-print_count = 10
-
-abbrev pub prints_length : (m : ℕ) → ℕ
-prints_length m = m * print_count
-
-abbrev pub print_at : (i s : ℕ) → ℕ
-print_at i s = i * print_count + s
+abbrev pub padding_length : (z : Sizes) → ℕ
+padding_length z = 2 * z.m
 
 -- n - 1 for each tag
 abbrev pub auxiliary_length : (n tags : ℕ) → ℕ

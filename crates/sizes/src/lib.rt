@@ -45,9 +45,6 @@ pub const NODES_MOST: usize = 6;
 
 pub const TAGS_MOST: usize = 10;
 
-// The prints of a source block.
-pub const PRINT_COUNT: usize = 10;
-
 // Of a repair: helpers, and repair blocks that each of them sends (the scheme: P, Q), both from 1.
 pub const HELPERS_MOST: usize = 5;
 

@@ -8,10 +8,7 @@ ghost use Rattle.tag.specs.Vector.{vector_answer, vector_out};
 ghost use Rattle.mask.specs.Setup.{setup_answer, setup_out};
 ghost use Rattle.message.specs.Unmask.{unmask_answer, unmask_out};
 ghost use Rattle.message.specs.Challenge.{challenge_for, challenge_answer, challenge_out};
-ghost use Rattle.audit.specs.Judging.{judgement_number};
-ghost use Rattle.audit.specs.Verdict.{verdict_of};
-ghost use Rattle.examining.specs.Prints.{prints_answer, prints_out};
-ghost use Rattle.examining.specs.Examine.{examine_of};
+ghost use Rattle.audit.specs.Verdict.{judgement_number, verdict_of};
 ghost use Rattle.archive.specs.Open.{open_answer, open_out};
 ghost use Rattle.archive.specs.Calls as Calls;
 ghost use Rattle.archive.specs.Calls.{archive_answer, archive_after, scratch_after};
@@ -181,60 +178,6 @@ pub extern "C" fn span_verdict(
 {
     audit::number(audit::verdict(
         tag_key, id, n, m, places, nodes, tags, rows, message, response,
-    ))
-}
-
-#[unsafe(no_mangle)]
-pub extern "C" fn span_prints(
-    check_key: &[u8],
-    id: &[u8],
-    n: usize,
-    m: usize,
-    file: &[u8],
-    padding: &[u8],
-    prints: &mut [u8],
-) -> u8
-    ensures number { let check_key = check_key.now in
-        let id = id.entry.now in
-        let file = file.entry.now in
-        let padding = padding.entry.now in
-        result ≡ outcome_number (prints_answer check_key id n m file padding prints.old) }
-    ensures output { let check_key = check_key.now in
-        let id = id.entry.now in
-        let file = file.entry.now in
-        let padding = padding.entry.now in
-        prints.new ≡ prints_out check_key id n m file padding prints.old }
-{
-    answer::number(examining::prints(check_key, id, n, m, file, padding, prints))
-}
-
-#[unsafe(no_mangle)]
-pub extern "C" fn span_examine(
-    check_key: &[u8],
-    mask_key: &[u8],
-    id: &[u8],
-    n: usize,
-    m: usize,
-    places: usize,
-    nodes: usize,
-    tags: usize,
-    prints: &[u8],
-    rows: &[u8],
-    message: &[u8],
-    response: &[u8],
-) -> u8
-    ensures { let check_key = check_key.now in
-        let mask_key = mask_key.now in
-        let id = id.entry.now in
-        let z : Sizes = record { n = n; m = m; places = places; nodes = nodes; tags = tags } in
-        let prints = prints.entry.now in
-        let rows = rows.entry.now in
-        let message = message.entry.now in
-        let response = response.entry.now in
-        result ≡ judgement_number (examine_of check_key mask_key id z prints rows message response) }
-{
-    audit::number(examining::examine(
-        check_key, mask_key, id, n, m, places, nodes, tags, prints, rows, message, response,
     ))
 }
 

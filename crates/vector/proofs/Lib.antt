@@ -3,4 +3,3 @@ pub mod AddedLaws
 pub mod SpanLaws
 pub mod VanishingLaws
 pub mod TakenLaws
-pub mod JoinedLaws

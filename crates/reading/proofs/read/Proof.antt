@@ -7,7 +7,6 @@ use Rattle.sizes.specs.Lengths.{file_length}
 use Rattle.archive.proofs.GoodArchiveLaws.{good_length}
 use Rattle.archive.proofs.CallLaws.{read_sizes}
 use Rattle.sizes.proofs.PlaceLaws.{file_low}
-use Rattle.sizes.specs.declared.Sizes.{Sizes}
 use Rattle.reading.proofs.read.Statement.{statement}
 use Rattle.reading.proofs.read.Tie as tie
 
@@ -25,11 +24,11 @@ mul-if2 c = omega (arith, file_low _ (read_sizes _ c.before.before.sizes-in.ensu
 
 returns-2 : tie.Need-returns-2
 returns-2 c =
-    let length-read = ap (λ (x : Sizes). file_length x.n x.m) c.before.before.before.sizes-in.ensures in
+    let length-read = ap file_length c.before.before.before.sizes-in.ensures in
     (refl, inl (passed _ _ (cc) ∙ refused _ _ (differs_other (λ e. c.if2.true (e ∙ sym length-read)))))
 
 read-file-requires : tie.Need-read-file-requires
-read-file-requires c κs = (cc, c.before.if2.false ∙ ap (λ (x : Sizes). file_length x.n x.m) c.before.before.before.before.sizes-in.ensures)
+read-file-requires c κs = (cc, c.before.if2.false ∙ ap file_length c.before.before.before.before.sizes-in.ensures)
 
 pub read_spec : {M : Type 1} → statement M
 read_spec =

@@ -5,7 +5,6 @@ use Rattle.sizes.specs.Lengths.{file_length}
 use Rattle.sizes.proofs.SizeLaws.{not_sizes_outside}
 use Rattle.archive.proofs.GoodArchiveLaws.{good_length}
 use Rattle.archive.proofs.CallLaws.{read_sizes, read_length}
-use Rattle.sizes.specs.declared.Sizes.{Sizes}
 use Rattle.reading.proofs.ReadingLaws.{chosen_alike}
 use Rattle.reading.proofs.FileLaws.{refuses, reads}
 use Rattle.reading.proofs.read_file.Statement.{statement}
@@ -58,7 +57,7 @@ solve-requires c κs =
       not_sizes_outside _ (read_sizes _ sizes.sizes-in.ensures b.requires.0),
       λ t h. omega (arith, w.choice.below t (omega (arith, h, c.before.before.if1.false, r.at_most_rows)), w.there),
       read_length _ sizes.sizes-in.ensures b.requires.0,
-      b.requires.1 ∙ sym (ap (λ (x : Sizes). file_length x.n x.m) sizes.sizes-in.ensures),
+      b.requires.1 ∙ sym (ap file_length sizes.sizes-in.ensures),
     )
 
 returns-2 : tie.Need-returns-2

@@ -1,6 +1,6 @@
 use borrow.Author.Rules.{rules}
 use mathlib.Core.Path.{ap, ◌∙◌}
-use Rattle.audit.specs.Judging.{judgement_number}
+use Rattle.audit.specs.Verdict.{judgement_number}
 use Rattle.span.proofs.span_verdict.Statement.{statement}
 use Rattle.span.proofs.span_verdict.Tie as tie
 

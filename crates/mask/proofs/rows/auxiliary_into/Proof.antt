@@ -9,7 +9,7 @@ use Rattle.sizes.specs.Lengths.{n_most, auxiliary_length}
 use Rattle.vector.specs.Vectors.{product}
 use Rattle.vector.proofs.VectorLaws.{product_same}
 use Rattle.mask.specs.Masks.{mask_row, auxiliary}
-use Rattle.lists.proofs.SpacedLaws.{column_more}
+use Rattle.mask.proofs.SpacedLaws.{column_more}
 use Rattle.mask.proofs.rows.auxiliary_into.Statement.{statement}
 use Rattle.mask.proofs.rows.auxiliary_into.Tie as tie
 

@@ -9,8 +9,8 @@ use Rattle.lists.proofs.PartLaws.{length_part, part_at}
 use Rattle.sizes.specs.Lengths.{n_most, tags_most}
 use Rattle.vector.specs.Vectors.{product}
 use Rattle.vector.proofs.VectorLaws.{product_keys}
-use Rattle.lists.specs.PrivateSpaced.{spaced}
-use Rattle.lists.proofs.SpacedLaws.{spaced_none, spaced_more}
+use Rattle.mask.specs.PrivateSpaced.{spaced}
+use Rattle.mask.proofs.SpacedLaws.{spaced_none, spaced_more}
 use Rattle.mask.proofs.rows.products_into.Statement.{statement}
 use Rattle.mask.proofs.rows.products_into.Tie as tie
 

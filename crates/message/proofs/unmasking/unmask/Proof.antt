@@ -1,7 +1,4 @@
 use borrow.Author.Rules.{rules}
-use mathlib.Core.Path.{◌∙◌}
-use native.Mathlib.Omega.{arith}
-use Rattle.lists.proofs.PutLaws.{put_all}
 use Rattle.answer.proofs.RefusalLaws.{written, kept}
 use Rattle.message.proofs.UnmaskAnswerLaws.{unmask_sizes}
 use Rattle.message.specs.Unmask.{unmask_out}
@@ -10,16 +7,14 @@ use Rattle.message.proofs.unmasking.unmask.Tie as tie
 
 unmask-into-requires : tie.Need-unmask-into-requires
 unmask-into-requires c κs =
-    let s = unmask_sizes _ _ _ _ _ _ c.before.before.before.unmask-check.ensures c.before.enum_told.given.1 in
-    (s.0, s.1, s.2, s.3, s.4, omega (arith, s.5))
+    unmask_sizes _ _ _ _ _ _ c.before.before.before.unmask-check.ensures c.before.enum_told.given.1
 
 returns : tie.Need-returns
 unfolding unmask_out
 returns c =
     let t = c.before.before.before.before in
     let a = t.before.before.unmask-check.ensures in
-    let long = (unmask_sizes _ _ _ _ _ _ a t.enum_told.given.1).5 in
-    (a, written _ a t.enum_told.given.1 (c.before.before.unmask-into.ensures ∙ put_all _ _ _ long))
+    (a, written _ a t.enum_told.given.1 c.before.before.unmask-into.ensures)
 
 returns-2 : tie.Need-returns-2
 unfolding unmask_out
