@@ -56,15 +56,21 @@ pub kept : {A : Type 0} {o answer : Outcome} {r : Refusal} {before : A} (new : A
 kept {before = before} new is refusal = sym (after_refused before new (sym is ∙ refusal))
 
 -- the end of an operation that counts
+pub count_written : {o : Outcome} {c k : ℕ} → o ≡ Done → c ≡ k → Count c ≡ counted o k
+count_written done e = rw (done, e) refl
+
+pub count_kept : {o : Outcome} {r : Refusal} (k : ℕ) → o ≡ Refused r → RefusedCount r ≡ counted o k
+count_kept k refusal = rw refusal refl
+
 pub counted_written : {A : Type 0} {o : Outcome} {c k : ℕ} (before : A) {new w : A} → o ≡ Done → c ≡ k → w ≡ new
     → (Count c ≡ counted o k) × (w ≡ afterwards o before new)
 unfolding afterwards
-counted_written before done e made = rw (done, e, made) (refl, refl)
+counted_written before done e made = (count_written done e, rw (done, made) refl)
 
 pub counted_kept : {A : Type 0} {o : Outcome} {r : Refusal} {before : A} (k : ℕ) (new : A) → o ≡ Refused r
     → (RefusedCount r ≡ counted o k) × (before ≡ afterwards o before new)
 unfolding afterwards
-counted_kept k new refusal = rw refusal (refl, refl)
+counted_kept k new refusal = (count_kept k refusal, rw refusal refl)
 
 pub counted_done : (o : Outcome) {k c : ℕ} → counted o k ≡ Count c → (o ≡ Done) × (k ≡ c)
 counted_done Done e = (refl, cc)

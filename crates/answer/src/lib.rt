@@ -1,11 +1,13 @@
 // What an operation answers: done, or the first refusal that applies.
+#![tactic(auto)]
+
 ghost use Rattle.std.specs.Prelude.{◌≡◌};
 ghost use Rattle.answer.specs.Numbers.{refusal_number, outcome_number};
 ghost use Rattle.answer.specs.Refusals as Refusals;
 ghost use Rattle.answer.specs.Counted.{counted_number};
 
 // The refusals, each with its number. No refusal has the number 10.
-#[derive(Drop)]
+#[derive(Clone, Copy)]
 pub enum Refusal {
     // 1: a size outside its range.
     Size,
@@ -31,7 +33,7 @@ pub enum Refusal {
     NoPlan,
 }
 
-#[derive(Drop)]
+#[derive(Clone, Copy)]
 pub enum Outcome {
     Done,
     Refused(Refusal),
@@ -74,7 +76,7 @@ pub fn number(o: Outcome) -> u8
 }
 
 // What Read and Inventory answer: a number (of filled places consulted, or of filled places), or a refusal.
-#[derive(Drop)]
+#[derive(Clone, Copy)]
 pub enum Counted {
     Count(usize),
     Refused(Refusal),

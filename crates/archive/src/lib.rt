@@ -1,4 +1,6 @@
 // The archive's bytes: header, fill marks and records; Open, Lose and Inventory. The definitions of all its operations are in specs/.
+#![tactic(auto)]
+
 mod layout;
 mod listing;
 mod losing;

@@ -1,4 +1,6 @@
 // Bit-packed fields of a byte slice, most significant bit first: headers and messages are made of them.
+#![tactic(auto)]
+
 ghost use Rattle.std.specs.Prelude.{◌≡◌, ◌+◌, ◌-◌, ◌*◌, ◌/◌, ◌%◌, ◌^◌, ◌≤◌, ◌<◌, length};
 ghost use Rattle.lists.specs.Lists.{bit};
 ghost use Rattle.bits.specs.Fields.{bit_at, field_at, with_field, RoundTrip, Written};

@@ -1,3 +1,5 @@
+use std::io;
+
 // The archives at the end of the lives in numbers: n=3, m=2, M=2, N=3; nodes 1 and 2 are filled. The first life has layout 1, so one tag;
 // the second has layout 2 and three tags.
 pub const LIVED: [u8; 54] =
@@ -32,8 +34,8 @@ pub fn changed_of_three(at: usize, b: u8) -> Bytes {
 }
 
 // What a refused call left of an archive.
-pub fn archive_kept(before: Bytes, after: Bytes) {
-    crate::unchanged(&before, &after);
+pub fn archive_kept(rt: &impl Print, before: Bytes, after: Bytes) -> io::Result<()> {
+    crate::unchanged(rt, &before, &after)
 }
 
 // The number that an answer counts; 255 where it is refused.

@@ -1,11 +1,13 @@
 // What the test programs share. One case a paragraph: its label, what is expected, what was got, and whether they are the same.
+#![tactic(auto)]
+
+use std::io;
+
 mod archives;
 
 pub use archives::{
     Bytes, LIVED, LIVED_OF_THREE, archive_kept, changed, changed_of_three, counted,
 };
-
-const OUT: i32 = 1;
 
 // Of the lives in numbers: the id; the challenge to node 2, places 0 and 1, coefficients 07 and b5; the responses to it, of one tag and
 // of three.
@@ -19,54 +21,46 @@ pub const RESPONSE: [u8; 17] = *b"\x24\x2a\x00\x14\x28\x3c\x50\x64\x78\x8c\xa0\x
 pub const RESPONSE_OF_THREE: [u8; 21] = *b"\x24\x2a\x00\x14\x28\x3c\x50\x64\x78\x8c\xa0\xb4\xc8\
     \x63\xce\x2b\xc8\x55\x4d\xfd\x76";
 
-fn wide(x: u8) -> u64 {
-    x as u64
-}
-
-fn hex(s: &[u8]) {
-    for i in 0..s.len() {
-        io::print_hex(OUT, wide(s[i]), 2);
+fn hex(rt: &impl Print, bytes: &[u8]) -> io::Result<()> {
+    for byte in bytes {
+        print!(rt; "{byte:02x}")?;
     }
+    Ok(())
 }
 
-fn verdict(same: bool) {
+fn verdict(rt: &impl Print, same: bool) -> io::Result<()> {
     if same {
-        io::write_all(OUT, b"\n  same\n");
+        println!(rt; "\n  same")
     } else {
-        io::write_all(OUT, b"\n  DIFFERENT\n");
+        println!(rt; "\n  DIFFERENT")
     }
 }
 
-pub fn bytes(label: &[u8], expected: &[u8], got: &[u8]) {
-    io::write_all(OUT, label);
-    io::write_all(OUT, b"\n  expected ");
-    hex(expected);
-    io::write_all(OUT, b"\n  got      ");
-    hex(got);
-    verdict(check::same(expected, got));
+pub fn bytes(rt: &impl Print, label: &str, expected: &[u8], got: &[u8]) -> io::Result<()> {
+    print!(rt; "{label}\n  expected ")?;
+    hex(rt, expected)?;
+    print!(rt; "\n  got      ")?;
+    hex(rt, got)?;
+    verdict(rt, expected == got)
 }
 
-pub fn number(label: &[u8], expected: u64, got: u64) {
-    io::write_all(OUT, label);
-    io::write_all(OUT, b"\n  expected ");
-    io::print_hex(OUT, expected, 2);
-    io::write_all(OUT, b"\n  got      ");
-    io::print_hex(OUT, got, 2);
-    verdict(expected == got);
+pub fn number(rt: &impl Print, label: &str, expected: u64, got: u64) -> io::Result<()> {
+    print!(rt; "{label}\n  expected {expected:02x}\n  got      {got:02x}")?;
+    verdict(rt, expected == got)
 }
 
 // What a refused call left of the bytes lent to it.
-pub fn unchanged(before: &[u8], after: &[u8]) {
-    if check::same(before, after) {
-        io::write_all(OUT, b"  nothing written\n");
+pub fn unchanged(rt: &impl Print, before: &[u8], after: &[u8]) -> io::Result<()> {
+    if before == after {
+        println!(rt; "  nothing written")
     } else {
-        io::write_all(OUT, b"  WRITTEN\n");
+        println!(rt; "  WRITTEN")
     }
 }
 
 // What it left of 64 where each was a5.
-pub fn kept(lent: [u8; 64]) {
-    unchanged(&[0xa5u8; 64], &lent);
+pub fn kept(rt: &impl Print, lent: [u8; 64]) -> io::Result<()> {
+    unchanged(rt, &[0xa5u8; 64], &lent)
 }
 
 // A key whose bytes count up.

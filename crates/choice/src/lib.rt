@@ -1,4 +1,6 @@
 // The greedy choice: of the candidates among some rows, in order, each that is independent of those taken before it.
+#![tactic(auto)]
+
 mod reducing;
 
 ghost use Rattle.std.specs.Prelude.{◌≡◌, ℕ, ◌+◌, ◌<◌, ◌≤◌};
@@ -13,7 +15,7 @@ use linear::Row;
 use reducing::{cleared, extended, pivot};
 
 // Where `count` rows of m elements stand in lent bytes: row k begins at start + k * stride.
-#[derive(Drop)]
+#[derive(Clone, Copy)]
 pub struct Rows {
     pub start: usize,
     pub stride: usize,
@@ -22,7 +24,7 @@ pub struct Rows {
 }
 
 // The rows taken, by number and in order, and how many candidates were consulted for them.
-#[derive(Drop)]
+#[derive(Clone, Copy)]
 pub struct Chosen {
     pub count: usize,
     pub consulted: usize,

@@ -1,4 +1,6 @@
 // A box's places filled by combinations: Encode and Repair.
+#![tactic(auto)]
+
 mod encoding;
 mod repairing;
 

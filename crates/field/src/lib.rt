@@ -1,4 +1,6 @@
 // The field GF(2^8) of FIPS 197: products by a table of powers and its logarithms.
+#![tactic(auto)]
+
 mod constants;
 
 ghost use Rattle.std.specs.Prelude.{◌≡◌, ◌↔◌, ◌<◌};

@@ -27,7 +27,7 @@ const QUARTERS: [[usize; 4]; 8] = [
 ];
 
 // The four words of a quarter round.
-#[derive(Drop)]
+#[derive(Clone, Copy)]
 pub struct Four {
     pub a: u32,
     pub b: u32,

@@ -1,4 +1,6 @@
 // The keystream: ChaCha20's block function (RFC 8439) and a stream of bytes over it.
+#![tactic(auto)]
+
 mod chacha;
 mod stream;
 

@@ -7,7 +7,7 @@ use super::chacha::{Key, Nonce, block_pairs, start_state};
 
 // The place in the block at hand, what is left of the number at hand, the state of the next block, and the block at hand.
 // The numbers stand first: `Drawn` is then built without a copy of the arrays.
-#[derive(Drop)]
+#[derive(Clone, Copy)]
 pub struct Stream {
     at: usize,
     cur: u64,
@@ -16,7 +16,7 @@ pub struct Stream {
 }
 
 // The byte, and the stream moved on by one.
-#[derive(Drop)]
+#[derive(Clone, Copy)]
 pub struct Drawn {
     pub byte: u8,
     pub stream: Stream,

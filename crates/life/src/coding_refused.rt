@@ -1,9 +1,11 @@
 // Encode, Lose and Repair with any lengths and numbers, on the archive of the first life; Repair's scratch on that of the second.
 use cases::{changed, changed_of_three};
+use std::io;
 
 // A refused Encode with buffers of these lengths, each below 65.
 fn encode(
-    label: &[u8],
+    rt: &impl Print,
+    label: &str,
     expected: u64,
     node: usize,
     place: usize,
@@ -11,7 +13,7 @@ fn encode(
     padding: usize,
     key: usize,
     row: usize,
-) {
+) -> io::Result<()> {
     let s = changed(0, 0x10);
     let mut t = s;
     let files = [1u8; 64];
@@ -27,26 +29,37 @@ fn encode(
         &keys[0..key % 65],
         &rows[0..row % 65],
     );
-    cases::number(label, expected, answer::number(answer) as u64);
-    cases::archive_kept(s, t);
+    cases::number(rt, label, expected, answer::number(answer) as u64)?;
+    cases::archive_kept(rt, s, t)
 }
 
 // 2, a length; 4, no such node or place; 6, place filled.
-fn encode_refused() {
-    encode(b"Encode, file one short", 2, 3, 0, 1, 4, 32, 2);
-    encode(b"Encode, file one long", 2, 0, 0, 3, 4, 32, 2);
-    encode(b"Encode, no file", 2, 0, 0, 0, 4, 32, 2);
-    encode(b"Encode, padding one short", 2, 0, 0, 2, 3, 32, 2);
-    encode(b"Encode, padding one long", 2, 0, 0, 2, 5, 32, 2);
-    encode(b"Encode, key one short", 2, 0, 0, 2, 4, 31, 2);
-    encode(b"Encode, key one long", 2, 0, 0, 2, 4, 33, 2);
-    encode(b"Encode, row one short", 2, 0, 0, 2, 4, 32, 1);
-    encode(b"Encode, row one long", 2, 1, 0, 2, 4, 32, 3);
-    encode(b"Encode, node 3", 4, 3, 0, 2, 4, 32, 2);
-    encode(b"Encode, node 2^63", 4, 9223372036854775808, 0, 2, 4, 32, 2);
-    encode(b"Encode, place 2", 4, 1, 2, 2, 4, 32, 2);
+fn encode_refused(rt: &impl Print) -> io::Result<()> {
+    encode(rt, "Encode, file one short", 2, 3, 0, 1, 4, 32, 2)?;
+    encode(rt, "Encode, file one long", 2, 0, 0, 3, 4, 32, 2)?;
+    encode(rt, "Encode, no file", 2, 0, 0, 0, 4, 32, 2)?;
+    encode(rt, "Encode, padding one short", 2, 0, 0, 2, 3, 32, 2)?;
+    encode(rt, "Encode, padding one long", 2, 0, 0, 2, 5, 32, 2)?;
+    encode(rt, "Encode, key one short", 2, 0, 0, 2, 4, 31, 2)?;
+    encode(rt, "Encode, key one long", 2, 0, 0, 2, 4, 33, 2)?;
+    encode(rt, "Encode, row one short", 2, 0, 0, 2, 4, 32, 1)?;
+    encode(rt, "Encode, row one long", 2, 1, 0, 2, 4, 32, 3)?;
+    encode(rt, "Encode, node 3", 4, 3, 0, 2, 4, 32, 2)?;
     encode(
-        b"Encode, place 2^64-1",
+        rt,
+        "Encode, node 2^63",
+        4,
+        9223372036854775808,
+        0,
+        2,
+        4,
+        32,
+        2,
+    )?;
+    encode(rt, "Encode, place 2", 4, 1, 2, 2, 4, 32, 2)?;
+    encode(
+        rt,
+        "Encode, place 2^64-1",
         4,
         1,
         18446744073709551615,
@@ -54,29 +67,30 @@ fn encode_refused() {
         4,
         32,
         2,
-    );
-    encode(b"Encode, place filled", 6, 1, 0, 2, 4, 32, 2);
-    encode(b"Encode, last place filled", 6, 2, 1, 2, 4, 32, 2);
+    )?;
+    encode(rt, "Encode, place filled", 6, 1, 0, 2, 4, 32, 2)?;
+    encode(rt, "Encode, last place filled", 6, 2, 1, 2, 4, 32, 2)
 }
 
-fn lose(label: &[u8], node: usize) {
+fn lose(rt: &impl Print, label: &str, node: usize) -> io::Result<()> {
     let s = changed(0, 0x10);
     let mut t = s;
     let answer = archive::lose(&mut t[0..54], node);
-    cases::number(label, 4, answer::number(answer) as u64);
-    cases::archive_kept(s, t);
+    cases::number(rt, label, 4, answer::number(answer) as u64)?;
+    cases::archive_kept(rt, s, t)
 }
 
-fn lose_refused() {
-    lose(b"Lose, node 3", 3);
-    lose(b"Lose, node 7", 7);
-    lose(b"Lose, node 2^63", 9223372036854775808);
-    lose(b"Lose, node 2^64-1", 18446744073709551615);
+fn lose_refused(rt: &impl Print) -> io::Result<()> {
+    lose(rt, "Lose, node 3", 3)?;
+    lose(rt, "Lose, node 7", 7)?;
+    lose(rt, "Lose, node 2^63", 9223372036854775808)?;
+    lose(rt, "Lose, node 2^64-1", 18446744073709551615)
 }
 
 // A refused Repair with lists of these lengths, each below 65; the first helper is given, the others are node 1.
 fn repair(
-    label: &[u8],
+    rt: &impl Print,
+    label: &str,
     expected: u64,
     target: usize,
     helpers: usize,
@@ -85,7 +99,7 @@ fn repair(
     gammas: usize,
     thetas: usize,
     scratch: usize,
-) {
+) -> io::Result<()> {
     let s = changed(0, 0x10);
     let mut t = s;
     let coefficients = [1u8; 64];
@@ -102,20 +116,32 @@ fn repair(
         &others[0..thetas % 65],
         &mut lent[0..scratch % 65],
     );
-    cases::number(label, expected, answer::number(answer) as u64);
-    cases::archive_kept(s, t);
-    cases::kept(lent);
+    cases::number(rt, label, expected, answer::number(answer) as u64)?;
+    cases::archive_kept(rt, s, t)?;
+    cases::kept(rt, lent)
 }
 
 // 1, P or Q; 2, a length.
-fn repair_sizes() {
-    repair(b"Repair, no helper", 1, 0, 0, 1, 1, 0, 0, 0);
-    repair(b"Repair, 6 helpers", 1, 0, 6, 1, 1, 12, 12, 36);
-    repair(b"Repair, Q=0", 1, 0, 1, 1, 0, 0, 0, 0);
-    repair(b"Repair, Q=9", 1, 0, 1, 1, 9, 18, 18, 54);
-    repair(b"Repair, Q=2^63", 1, 0, 2, 1, 9223372036854775808, 0, 0, 0);
+fn repair_sizes(rt: &impl Print) -> io::Result<()> {
+    repair(rt, "Repair, no helper", 1, 0, 0, 1, 1, 0, 0, 0)?;
+    repair(rt, "Repair, 6 helpers", 1, 0, 6, 1, 1, 12, 12, 36)?;
+    repair(rt, "Repair, Q=0", 1, 0, 1, 1, 0, 0, 0, 0)?;
+    repair(rt, "Repair, Q=9", 1, 0, 1, 1, 9, 18, 18, 54)?;
     repair(
-        b"Repair, Q=2^64-1",
+        rt,
+        "Repair, Q=2^63",
+        1,
+        0,
+        2,
+        1,
+        9223372036854775808,
+        0,
+        0,
+        0,
+    )?;
+    repair(
+        rt,
+        "Repair, Q=2^64-1",
         1,
         0,
         1,
@@ -124,21 +150,22 @@ fn repair_sizes() {
         2,
         2,
         6,
-    );
-    repair(b"Repair, gammas one short", 2, 3, 1, 1, 1, 1, 2, 6);
-    repair(b"Repair, gammas one long", 2, 0, 1, 1, 1, 3, 2, 6);
-    repair(b"Repair, no thetas", 2, 0, 1, 1, 1, 2, 0, 6);
-    repair(b"Repair, thetas one long", 2, 0, 1, 1, 1, 2, 3, 6);
-    repair(b"Repair, scratch one short", 2, 0, 1, 1, 1, 2, 2, 5);
-    repair(b"Repair, scratch one long", 2, 0, 1, 1, 1, 2, 2, 7);
-    repair(b"Repair, no scratch", 2, 0, 1, 1, 1, 2, 2, 0);
+    )?;
+    repair(rt, "Repair, gammas one short", 2, 3, 1, 1, 1, 1, 2, 6)?;
+    repair(rt, "Repair, gammas one long", 2, 0, 1, 1, 1, 3, 2, 6)?;
+    repair(rt, "Repair, no thetas", 2, 0, 1, 1, 1, 2, 0, 6)?;
+    repair(rt, "Repair, thetas one long", 2, 0, 1, 1, 1, 2, 3, 6)?;
+    repair(rt, "Repair, scratch one short", 2, 0, 1, 1, 1, 2, 2, 5)?;
+    repair(rt, "Repair, scratch one long", 2, 0, 1, 1, 1, 2, 2, 7)?;
+    repair(rt, "Repair, no scratch", 2, 0, 1, 1, 1, 2, 2, 0)
 }
 
 // 4 for a target or a helper that is not there, 6 for a target that is not empty, 5 for a helper with an empty place.
-fn repair_places() {
-    repair(b"Repair, target 3", 4, 3, 1, 1, 1, 2, 2, 6);
+fn repair_places(rt: &impl Print) -> io::Result<()> {
+    repair(rt, "Repair, target 3", 4, 3, 1, 1, 1, 2, 2, 6)?;
     repair(
-        b"Repair, target 2^64-1",
+        rt,
+        "Repair, target 2^64-1",
         4,
         18446744073709551615,
         1,
@@ -147,12 +174,13 @@ fn repair_places() {
         2,
         2,
         6,
-    );
-    repair(b"Repair, helper 3", 4, 1, 1, 3, 1, 2, 2, 6);
-    repair(b"Repair, helper 255", 4, 0, 2, 255, 1, 4, 4, 12);
-    repair(b"Repair, target filled", 6, 2, 1, 1, 1, 2, 2, 6);
+    )?;
+    repair(rt, "Repair, helper 3", 4, 1, 1, 3, 1, 2, 2, 6)?;
+    repair(rt, "Repair, helper 255", 4, 0, 2, 255, 1, 4, 4, 12)?;
+    repair(rt, "Repair, target filled", 6, 2, 1, 1, 1, 2, 2, 6)?;
     repair(
-        b"Repair, target filled and helper empty",
+        rt,
+        "Repair, target filled and helper empty",
         6,
         2,
         1,
@@ -161,12 +189,12 @@ fn repair_places() {
         2,
         2,
         6,
-    );
-    repair(b"Repair, the target as helper", 5, 0, 2, 0, 1, 4, 4, 12);
+    )?;
+    repair(rt, "Repair, the target as helper", 5, 0, 2, 0, 1, 4, 4, 12)
 }
 
 // Node 0 from node 1, Q=1, with three tags: the scratch buffer has 8 bytes.
-fn scratch_of_three(label: &[u8], scratch: usize) {
+fn scratch_of_three(rt: &impl Print, label: &str, scratch: usize) -> io::Result<()> {
     let s = changed_of_three(0, 0x20);
     let mut t = s;
     let mut lent = [0xa5u8; 64];
@@ -179,21 +207,21 @@ fn scratch_of_three(label: &[u8], scratch: usize) {
         &[3, 4],
         &mut lent[0..scratch % 65],
     );
-    cases::number(label, 2, answer::number(answer) as u64);
-    cases::archive_kept(s, t);
-    cases::kept(lent);
+    cases::number(rt, label, 2, answer::number(answer) as u64)?;
+    cases::archive_kept(rt, s, t)?;
+    cases::kept(rt, lent)
 }
 
-fn scratches_of_three() {
-    scratch_of_three(b"Repair, L=3, scratch one short", 7);
-    scratch_of_three(b"Repair, L=3, scratch one long", 9);
-    scratch_of_three(b"Repair, L=3, scratch of one tag", 6);
+fn scratches_of_three(rt: &impl Print) -> io::Result<()> {
+    scratch_of_three(rt, "Repair, L=3, scratch one short", 7)?;
+    scratch_of_three(rt, "Repair, L=3, scratch one long", 9)?;
+    scratch_of_three(rt, "Repair, L=3, scratch of one tag", 6)
 }
 
-pub fn run() {
-    encode_refused();
-    lose_refused();
-    repair_sizes();
-    repair_places();
-    scratches_of_three();
+pub fn run(rt: &impl Print) -> io::Result<()> {
+    encode_refused(rt)?;
+    lose_refused(rt)?;
+    repair_sizes(rt)?;
+    repair_places(rt)?;
+    scratches_of_three(rt)
 }

@@ -1,5 +1,9 @@
 // Lives the lives in numbers through the archive's operations, with the worked header and marks, and calls each operation
 // with hostile bytes, lengths and numbers.
+#![tactic(auto)]
+
+use std::io;
+
 mod bad;
 mod coding_refused;
 mod living;
@@ -9,13 +13,13 @@ mod plans;
 mod proving_refused;
 mod reading_refused;
 
-fn main() {
-    opening::run();
-    living::run();
-    bad::run();
-    coding_refused::run();
-    proving_refused::run();
-    reading_refused::run();
-    plans::run();
-    losing::run();
+fn main(rt: HostRuntime) -> io::Result<()> {
+    opening::run(&rt)?;
+    living::run(&rt)?;
+    bad::run(&rt)?;
+    coding_refused::run(&rt)?;
+    proving_refused::run(&rt)?;
+    reading_refused::run(&rt)?;
+    plans::run(&rt)?;
+    losing::run(&rt)
 }

@@ -1,22 +1,29 @@
 // Open: the worked header, and calls with any lengths and numbers.
 use cases::{ID, counted, counting_key};
+use std::io;
 
 // n=3, m=2, M=1, N=3: the header and the length of 36 bytes.
-fn worked() -> [u8; 36] {
+fn worked(rt: &impl Print) -> io::Result<[u8; 36]> {
     let mut s = [0xffu8; 36];
     let answer = answer::number(archive::open(1, 3, 2, 1, 3, 1, &ID, &mut s));
-    cases::number(b"Open's answer", 0, answer as u64);
+    cases::number(rt, "Open's answer", 0, answer as u64)?;
     cases::bytes(
-        b"Open, n=3, m=2, M=1, N=3: the header's first bytes",
+        rt,
+        "Open, n=3, m=2, M=1, N=3: the header's first bytes",
         &[0x10, 0x06, 0x21, 0x60],
         &s[0..4],
-    );
-    cases::bytes(b"Open, the id", &ID, &s[4..12]);
-    cases::bytes(b"Open, no marks and zero records", &[0u8; 24], &s[12..36]);
-    s
+    )?;
+    cases::bytes(rt, "Open, the id", &ID, &s[4..12])?;
+    cases::bytes(
+        rt,
+        "Open, no marks and zero records",
+        &[0u8; 24],
+        &s[12..36],
+    )?;
+    Ok(s)
 }
 
-fn filled(s: [u8; 36], node: usize) -> [u8; 36] {
+fn filled(rt: &impl Print, s: [u8; 36], node: usize) -> io::Result<[u8; 36]> {
     let mut t = s;
     let answer = answer::number(coding::encode(
         &mut t,
@@ -27,53 +34,63 @@ fn filled(s: [u8; 36], node: usize) -> [u8; 36] {
         &counting_key(0),
         &[1, 0],
     ));
-    cases::number(b"Encode's answer", 0, answer as u64);
-    t
+    cases::number(rt, "Encode's answer", 0, answer as u64)?;
+    Ok(t)
 }
 
-fn listed(s: [u8; 36]) {
+fn listed(rt: &impl Print, s: [u8; 36]) -> io::Result<()> {
     let mut list = [0xffu8; 3];
     let found = archive::inventory(&s, &mut list);
     cases::number(
-        b"Nodes 0 and 2 filled: Inventory's number",
+        rt,
+        "Nodes 0 and 2 filled: Inventory's number",
         2,
         counted(found) as u64,
-    );
+    )?;
     cases::bytes(
-        b"Nodes 0 and 2 filled: Inventory's list",
+        rt,
+        "Nodes 0 and 2 filled: Inventory's list",
         &[0x00, 0x10, 0x00],
         &list,
-    );
+    )
 }
 
-fn marks() {
-    let s = filled(filled(worked(), 0), 2);
+fn marks(rt: &impl Print) -> io::Result<()> {
+    let s = filled(rt, filled(rt, worked(rt)?, 0)?, 2)?;
     cases::bytes(
-        b"Nodes 0 and 2 filled: the marks",
+        rt,
+        "Nodes 0 and 2 filled: the marks",
         &[0xa0, 0, 0, 0, 0, 0],
         &s[12..18],
-    );
-    listed(s);
+    )?;
+    listed(rt, s)
 }
 
-fn opened_with_tags(tags: usize, len: usize) -> [u8; 64] {
+fn opened_with_tags(rt: &impl Print, tags: usize, len: usize) -> io::Result<[u8; 64]> {
     let mut s = [0xffu8; 64];
     let answer = archive::open(2, 3, 2, 1, 3, tags, &ID, &mut s[0..len % 65]);
-    cases::number(b"Open's answer", 0, answer::number(answer) as u64);
-    s
+    cases::number(rt, "Open's answer", 0, answer::number(answer) as u64)?;
+    Ok(s)
 }
 
 // Layout 2: the header ends with the number of tags. Lose takes such an archive.
-fn worked_with_tags(label: &[u8], tags: usize, last: u8, len: usize) {
-    let mut s = opened_with_tags(tags, len);
-    cases::bytes(label, &[0x20, 0x06, 0x21, last], &s[0..4]);
+fn worked_with_tags(
+    rt: &impl Print,
+    label: &str,
+    tags: usize,
+    last: u8,
+    len: usize,
+) -> io::Result<()> {
+    let mut s = opened_with_tags(rt, tags, len)?;
+    cases::bytes(rt, label, &[0x20, 0x06, 0x21, last], &s[0..4])?;
     let answer = archive::lose(&mut s[0..len % 65], 2);
-    cases::number(b"Lose's answer", 0, answer::number(answer) as u64);
+    cases::number(rt, "Lose's answer", 0, answer::number(answer) as u64)
 }
 
 // A refused Open with an id and an archive of these lengths, each below 65.
 fn open(
-    label: &[u8],
+    rt: &impl Print,
+    label: &str,
     expected: u64,
     layout: usize,
     n: usize,
@@ -83,7 +100,7 @@ fn open(
     tags: usize,
     id: usize,
     len: usize,
-) {
+) -> io::Result<()> {
     let ids = [0xa5u8; 64];
     let mut lent = ids;
     let answer = answer::number(archive::open(
@@ -96,13 +113,14 @@ fn open(
         &ids[0..id % 65],
         &mut lent[0..len % 65],
     ));
-    cases::number(label, expected, answer as u64);
-    cases::kept(lent);
+    cases::number(rt, label, expected, answer as u64)?;
+    cases::kept(rt, lent)
 }
 
 // Under layout 1, with one tag.
 fn refused(
-    label: &[u8],
+    rt: &impl Print,
+    label: &str,
     expected: u64,
     n: usize,
     m: usize,
@@ -110,63 +128,82 @@ fn refused(
     nodes: usize,
     id: usize,
     len: usize,
-) {
-    open(label, expected, 1, n, m, places, nodes, 1, id, len);
+) -> io::Result<()> {
+    open(rt, label, expected, 1, n, m, places, nodes, 1, id, len)
 }
 
 // With n=3, m=2, M=1, N=1: 23 bytes and the tags.
-fn refused_with_tags(label: &[u8], expected: u64, layout: usize, tags: usize, len: usize) {
-    open(label, expected, layout, 3, 2, 1, 1, tags, 8, len);
+fn refused_with_tags(
+    rt: &impl Print,
+    label: &str,
+    expected: u64,
+    layout: usize,
+    tags: usize,
+    len: usize,
+) -> io::Result<()> {
+    open(rt, label, expected, layout, 3, 2, 1, 1, tags, 8, len)
 }
 
 // A layout or a number of tags that there is not, with the length that it would have where that fits; then wrong lengths.
-fn layouts() {
-    refused_with_tags(b"Open, layout 0", 1, 0, 1, 24);
-    refused_with_tags(b"Open, layout 3", 1, 3, 1, 24);
-    refused_with_tags(b"Open, layout 15", 1, 15, 1, 24);
-    refused_with_tags(b"Open, layout 18", 1, 18, 1, 24);
-    refused_with_tags(b"Open, layout 2^63", 1, 9223372036854775808, 1, 24);
-    refused_with_tags(b"Open, layout 1, L=0", 1, 1, 0, 23);
-    refused_with_tags(b"Open, layout 1, L=2", 1, 1, 2, 25);
-    refused_with_tags(b"Open, L=0", 1, 2, 0, 23);
-    refused_with_tags(b"Open, L=11", 1, 2, 11, 34);
-    refused_with_tags(b"Open, L=17", 1, 2, 17, 40);
-    refused_with_tags(b"Open, L=2^63", 1, 2, 9223372036854775808, 23);
-    refused_with_tags(b"Open, L=3, one byte short", 2, 2, 3, 25);
-    refused_with_tags(b"Open, L=3, one byte long", 2, 2, 3, 27);
+fn layouts(rt: &impl Print) -> io::Result<()> {
+    refused_with_tags(rt, "Open, layout 0", 1, 0, 1, 24)?;
+    refused_with_tags(rt, "Open, layout 3", 1, 3, 1, 24)?;
+    refused_with_tags(rt, "Open, layout 15", 1, 15, 1, 24)?;
+    refused_with_tags(rt, "Open, layout 18", 1, 18, 1, 24)?;
+    refused_with_tags(rt, "Open, layout 2^63", 1, 9223372036854775808, 1, 24)?;
+    refused_with_tags(rt, "Open, layout 1, L=0", 1, 1, 0, 23)?;
+    refused_with_tags(rt, "Open, layout 1, L=2", 1, 1, 2, 25)?;
+    refused_with_tags(rt, "Open, L=0", 1, 2, 0, 23)?;
+    refused_with_tags(rt, "Open, L=11", 1, 2, 11, 34)?;
+    refused_with_tags(rt, "Open, L=17", 1, 2, 17, 40)?;
+    refused_with_tags(rt, "Open, L=2^63", 1, 2, 9223372036854775808, 23)?;
+    refused_with_tags(rt, "Open, L=3, one byte short", 2, 2, 3, 25)?;
+    refused_with_tags(rt, "Open, L=3, one byte long", 2, 2, 3, 27)
 }
 
 // 1, sizes, before 2, lengths.
-pub fn run() {
-    marks();
+pub fn run(rt: &impl Print) -> io::Result<()> {
+    marks(rt)?;
     worked_with_tags(
-        b"Open, layout 2, L=1: the header's first bytes",
+        rt,
+        "Open, layout 2, L=1: the header's first bytes",
         1,
         0x62,
         36,
-    );
+    )?;
     worked_with_tags(
-        b"Open, layout 2, L=10: the header's first bytes",
+        rt,
+        "Open, layout 2, L=10: the header's first bytes",
         10,
         0x74,
         63,
-    );
-    refused(b"Open, n=0", 1, 0, 2, 1, 3, 8, 36);
-    refused(b"Open, n=2", 1, 2, 2, 1, 3, 8, 33);
-    refused(b"Open, n=1025", 1, 1025, 2, 1, 3, 0, 0);
-    refused(b"Open, n=2^63", 1, 9223372036854775808, 2, 1, 3, 8, 36);
-    refused(b"Open, m=0", 1, 3, 0, 1, 3, 8, 30);
-    refused(b"Open, m=17", 1, 3, 17, 1, 1, 8, 39);
-    refused(b"Open, m=2^64-1", 1, 3, 18446744073709551615, 1, 3, 8, 36);
-    refused(b"Open, M=0", 1, 3, 2, 0, 3, 8, 18);
-    refused(b"Open, M=9", 1, 3, 2, 9, 1, 8, 0);
-    refused(b"Open, M=2^63", 1, 3, 2, 9223372036854775808, 2, 8, 18);
-    refused(b"Open, N=0", 1, 3, 2, 1, 0, 8, 18);
-    refused(b"Open, N=7", 1, 3, 2, 1, 7, 8, 60);
-    refused(b"Open, id of 7 bytes", 2, 3, 2, 1, 3, 7, 36);
-    refused(b"Open, no id", 2, 3, 2, 1, 3, 0, 36);
-    refused(b"Open, one byte short", 2, 3, 2, 1, 3, 8, 35);
-    refused(b"Open, one byte long", 2, 3, 2, 1, 3, 8, 37);
-    refused(b"Open, no archive", 2, 3, 2, 1, 3, 8, 0);
-    layouts();
+    )?;
+    refused(rt, "Open, n=0", 1, 0, 2, 1, 3, 8, 36)?;
+    refused(rt, "Open, n=2", 1, 2, 2, 1, 3, 8, 33)?;
+    refused(rt, "Open, n=1025", 1, 1025, 2, 1, 3, 0, 0)?;
+    refused(rt, "Open, n=2^63", 1, 9223372036854775808, 2, 1, 3, 8, 36)?;
+    refused(rt, "Open, m=0", 1, 3, 0, 1, 3, 8, 30)?;
+    refused(rt, "Open, m=17", 1, 3, 17, 1, 1, 8, 39)?;
+    refused(
+        rt,
+        "Open, m=2^64-1",
+        1,
+        3,
+        18446744073709551615,
+        1,
+        3,
+        8,
+        36,
+    )?;
+    refused(rt, "Open, M=0", 1, 3, 2, 0, 3, 8, 18)?;
+    refused(rt, "Open, M=9", 1, 3, 2, 9, 1, 8, 0)?;
+    refused(rt, "Open, M=2^63", 1, 3, 2, 9223372036854775808, 2, 8, 18)?;
+    refused(rt, "Open, N=0", 1, 3, 2, 1, 0, 8, 18)?;
+    refused(rt, "Open, N=7", 1, 3, 2, 1, 7, 8, 60)?;
+    refused(rt, "Open, id of 7 bytes", 2, 3, 2, 1, 3, 7, 36)?;
+    refused(rt, "Open, no id", 2, 3, 2, 1, 3, 0, 36)?;
+    refused(rt, "Open, one byte short", 2, 3, 2, 1, 3, 8, 35)?;
+    refused(rt, "Open, one byte long", 2, 3, 2, 1, 3, 8, 37)?;
+    refused(rt, "Open, no archive", 2, 3, 2, 1, 3, 8, 0)?;
+    layouts(rt)
 }

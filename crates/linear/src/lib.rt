@@ -1,4 +1,6 @@
 // Rows and elimination over GF(2^8).
+#![tactic(auto)]
+
 mod rows;
 
 ghost use Rattle.std.specs.Prelude.{◌≡◌, ℕ, ◌<◌, ◌≤◌};

@@ -8,7 +8,7 @@ ghost use Rattle.linear.specs.PrivateRows.{kept};
 use field::Tables;
 
 // A row of m elements, kept as sixteen bytes, those past m zero.
-#[derive(Drop)]
+#[derive(Clone, Copy)]
 pub struct Row {
     pub bytes: [u8; 16],
 }

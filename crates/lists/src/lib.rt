@@ -1,4 +1,6 @@
 // Lists by index: definitions and laws that every layer above cites, and small functions on bytes.
+#![tactic(auto)]
+
 ghost use Rattle.std.specs.Prelude.{◌≡◌, ◌+◌, ◌<◌, ◌≤◌, length};
 ghost use Rattle.lists.specs.Lists.{at, tab, put};
 

@@ -1,4 +1,6 @@
 // Losses: which sets of k nodes (the scheme: boxes) would take the file with them.
+#![tactic(auto)]
+
 mod sets;
 
 ghost use Rattle.std.specs.Prelude.{◌≡◌, false, ℕ, ◌/◌, ◌<◌, ◌≤◌, length};

@@ -1,4 +1,6 @@
 // Masks (NC-Audit): F2, F3, auxiliary elements, mask and mask sum; Setup.
+#![tactic(auto)]
+
 mod rows;
 
 ghost use Rattle.std.specs.Prelude.{◌≡◌, ℕ, ◌+◌, ◌-◌, ◌*◌, ◌<◌, ◌≤◌, length};

@@ -1,4 +1,6 @@
 // The two messages (NC-Audit): challenge and response, their bytes both ways; Challenge and Unmask.
+#![tactic(auto)]
+
 mod asking;
 mod response;
 mod unmasking;

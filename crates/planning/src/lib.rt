@@ -1,4 +1,6 @@
 // Plan: the thetas by which Repair gives a node's places the rows that are wanted.
+#![tactic(auto)]
+
 mod rows;
 mod thetas;
 

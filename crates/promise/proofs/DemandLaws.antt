@@ -4,7 +4,7 @@ use mathlib.Core.Path.{◌≡◌, sym, ap, ◌∙◌, subst}
 use mathlib.Core.List.{List}
 use native.Mathlib.Omega.{arith}
 use lib.Seq.{ext_get_or}
-use Rattle.lists.specs.Lists.{at, tab}
+use Rattle.lists.specs.Lists.{tab}
 use Rattle.lists.proofs.TabLaws.{length_tab, tab_at}
 use Rattle.lists.proofs.AnyLaws.{none_at}
 use Rattle.answer.specs.Refusals.{afterwards}

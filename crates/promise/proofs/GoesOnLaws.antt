@@ -1,6 +1,6 @@
 -- Demand 3 goes on, from every archive that follows a table. Assumes nothing.
 use Prim.Native.Nat.{ℕ, ◌+◌, ◌*◌, ◌<◌}
-use mathlib.Core.Path.{◌≡◌, refl, sym, ap, subst, ◌∙◌}
+use mathlib.Core.Path.{◌≡◌, refl, sym, subst, ◌∙◌}
 use mathlib.Core.List.{List}
 use native.Mathlib.Omega.{arith}
 use lib.ListN.{length}
@@ -12,13 +12,11 @@ use Rattle.answer.specs.declared.Outcome.TheVariants.{Done, Refused}
 use Rattle.answer.specs.Refusals.{afterwards}
 use Rattle.answer.proofs.RefusalLaws.{passed, after_done, differs_same}
 use Rattle.sizes.specs.declared.Sizes.{Sizes}
-use Rattle.archive.specs.Layout.{layout_of, sizes_of}
-use Rattle.archive.specs.Calls.{Call, archive_run}
 use Rattle.archive.specs.Told.{sizes_answer, stored_row, rows_answer, rows_out}
 use Rattle.promise.specs.Table.{Place, empty, filled, Table, all_empty, is_filled, element, written, table_run}
 use Rattle.promise.specs.Image.{Setting, image}
-use Rattle.promise.specs.Demand3.{Given, setting, Admitted}
-use Rattle.promise.specs.Fresh.{fresh_calls, new_archive}
+use Rattle.promise.specs.Demand3.{Given, setting}
+use Rattle.promise.specs.Fresh.{fresh_calls}
 use Rattle.promise.specs.Shares.{Follows, table_gather, table_gathered, GoesOn, Demand3GoesOn}
 use Rattle.promise.proofs.TableLaws.{Fine, AllFine, written_fine, run_fine}
 use Rattle.promise.proofs.ImageLaws.{image_sizes, image_layout, image_good, image_filled, image_byte, record_row}

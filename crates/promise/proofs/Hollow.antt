@@ -42,7 +42,6 @@ use Rattle.promise.specs.Demand3.{setting, Admitted}
 use Rattle.promise.specs.Fresh.{fresh_calls}
 use Rattle.promise.specs.Shares.{keeping}
 use Rattle.promise.specs.Life as L
-use Rattle.promise.specs.Worked as W
 use Rattle.promise.specs.Hollow.{fresh, first_call, altered, three_agree, of_zeros, ended, zero_second, Hollow}
 use Rattle.promise.proofs.ImageLaws.{image_mark, image_number}
 use Rattle.promise.proofs.DemandLaws.{fits, run_is, demand3}

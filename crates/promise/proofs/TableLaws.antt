@@ -11,7 +11,7 @@ use lib.Arith.{digits_div, digits_mod}
 use lib.Dec.{eqb, ltb}
 use lib.ListN.{length}
 use borrow.Author.Tests.{lt-ltb, le-ltb, eq-eqb, ne_eqb}
-use Rattle.lists.specs.Lists.{pick, at, over, Bytes}
+use Rattle.lists.specs.Lists.{pick, over, Bytes}
 use Rattle.lists.proofs.TabLaws.{order, length_tab, tab_at}
 use Rattle.lists.proofs.OverLaws.{over_within, over_below, over_above}
 use Rattle.lists.proofs.AnyLaws.{none_at, pick_same}

@@ -7,9 +7,8 @@ use mathlib.Core.Logic.{⊎_elim}
 use native.Mathlib.Omega.{arith}
 use lib.Arith.{digits_div}
 use lib.Dec.{eqb}
-use lib.ListN.{length}
 use borrow.Author.Tests.{eq-eqb, eqb-true}
-use Rattle.lists.specs.Lists.{pick, at, holds, Bytes}
+use Rattle.lists.specs.Lists.{pick, holds, Bytes}
 use Rattle.lists.proofs.TabLaws.{order}
 use Rattle.lists.proofs.AnyLaws.{pick_same, pick_test}
 use Rattle.lists.proofs.FilterLaws.{length_filtered, filtered_all}

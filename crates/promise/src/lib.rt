@@ -1,4 +1,6 @@
 // What the archive promises, as theorems: each is carried by an empty function, so that the crate is not proved without its proof.
+#![tactic(auto)]
+
 ghost use Rattle.promise.specs.Demand3.{Demand3};
 ghost use Rattle.promise.specs.Life.{one, three, Lived};
 ghost use Rattle.promise.specs.Worked.{Worked};

@@ -1,4 +1,6 @@
 // Prove: the response to a challenge.
+#![tactic(auto)]
+
 ghost use Rattle.std.specs.Prelude.{◌≡◌, false, not, ℕ, ◌+◌, ◌-◌, ◌<◌, ◌≤◌, length};
 ghost use Rattle.lists.specs.Lists.{at, any_below, put};
 ghost use Rattle.answer.specs.Refusals.{Passed};

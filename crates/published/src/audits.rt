@@ -1,5 +1,6 @@
 // Challenge and Verdict: the lives in numbers, and calls with any lengths and numbers.
 use cases::{CHALLENGE, ID, RESPONSE, RESPONSE_OF_THREE, counting_key};
+use std::io;
 
 // The rows that the table has for node 2.
 const ROWS: [u8; 4] = [0xf3, 0xfe, 0x72, 0xfb];
@@ -15,27 +16,34 @@ const ZEROS: [u8; 5] = [0x14, 0x40, 0x00, 0x80, 0x00];
 
 const SECOND: [u8; 3] = [0x14, 0x24, 0x04];
 
-fn challenge_worked() {
+fn challenge_worked(rt: &impl Print) -> io::Result<()> {
     let mut message = [0u8; 5];
     let answer = answer::number(message::challenge(2, &[0, 1], &[0x07, 0xb5], &mut message));
-    cases::number(b"Challenge's answer", 0, answer as u64);
-    cases::bytes(b"Challenge to node 2, places 0 and 1", &CHALLENGE, &message);
+    cases::number(rt, "Challenge's answer", 0, answer as u64)?;
+    cases::bytes(
+        rt,
+        "Challenge to node 2, places 0 and 1",
+        &CHALLENGE,
+        &message,
+    )
 }
 
-fn challenge_of_one() {
+fn challenge_of_one(rt: &impl Print) -> io::Result<()> {
     let mut message = [0xffu8; 3];
     let answer = answer::number(message::challenge(2, &[0], &[1], &mut message));
-    cases::number(b"Challenge's answer, one item", 0, answer as u64);
+    cases::number(rt, "Challenge's answer, one item", 0, answer as u64)?;
     cases::bytes(
-        b"Challenge to node 2, place 0, coefficient 01",
+        rt,
+        "Challenge to node 2, place 0, coefficient 01",
         &[0x14, 0x20, 0x04],
         &message,
-    );
+    )
 }
 
 // A refused Challenge with lists and a message of these lengths, each below 65; the first two places are given, the others are 7.
 fn challenge(
-    label: &[u8],
+    rt: &impl Print,
+    label: &str,
     expected: u64,
     node: usize,
     places: usize,
@@ -43,7 +51,7 @@ fn challenge(
     second: u8,
     coefficients: usize,
     message: usize,
-) {
+) -> io::Result<()> {
     let ones = [1u8; 64];
     let mut named = [7u8; 64];
     named[0] = first;
@@ -55,16 +63,17 @@ fn challenge(
         &ones[0..coefficients % 65],
         &mut lent[0..message % 65],
     ));
-    cases::number(label, expected, answer as u64);
-    cases::kept(lent);
+    cases::number(rt, label, expected, answer as u64)?;
+    cases::kept(rt, lent)
 }
 
 // The order: 2 for lists of unequal length, 9 for fields, 2 for the output.
-fn challenge_refused() {
-    challenge(b"Challenge, lists of 2 and 1", 2, 9, 2, 0, 1, 1, 5);
-    challenge(b"Challenge, node 6", 9, 6, 2, 0, 1, 2, 0);
+fn challenge_refused(rt: &impl Print) -> io::Result<()> {
+    challenge(rt, "Challenge, lists of 2 and 1", 2, 9, 2, 0, 1, 1, 5)?;
+    challenge(rt, "Challenge, node 6", 9, 6, 2, 0, 1, 2, 0)?;
     challenge(
-        b"Challenge, node 2^64-1",
+        rt,
+        "Challenge, node 2^64-1",
         9,
         18446744073709551615,
         2,
@@ -72,19 +81,27 @@ fn challenge_refused() {
         1,
         2,
         5,
-    );
-    challenge(b"Challenge, no item", 9, 2, 0, 0, 1, 0, 2);
-    challenge(b"Challenge, 9 items", 9, 2, 9, 0, 1, 9, 14);
-    challenge(b"Challenge, place 8", 9, 2, 2, 7, 8, 2, 5);
-    challenge(b"Challenge, equal places", 9, 2, 2, 1, 1, 2, 5);
-    challenge(b"Challenge, falling places", 9, 2, 2, 1, 0, 2, 5);
-    challenge(b"Challenge, output one short", 2, 2, 3, 0, 1, 3, 5);
-    challenge(b"Challenge, output one long", 2, 2, 1, 0, 1, 1, 4);
-    challenge(b"Challenge, output of 0 bytes", 2, 2, 1, 0, 1, 1, 0);
+    )?;
+    challenge(rt, "Challenge, no item", 9, 2, 0, 0, 1, 0, 2)?;
+    challenge(rt, "Challenge, 9 items", 9, 2, 9, 0, 1, 9, 14)?;
+    challenge(rt, "Challenge, place 8", 9, 2, 2, 7, 8, 2, 5)?;
+    challenge(rt, "Challenge, equal places", 9, 2, 2, 1, 1, 2, 5)?;
+    challenge(rt, "Challenge, falling places", 9, 2, 2, 1, 0, 2, 5)?;
+    challenge(rt, "Challenge, output one short", 2, 2, 3, 0, 1, 3, 5)?;
+    challenge(rt, "Challenge, output one long", 2, 2, 1, 0, 1, 1, 4)?;
+    challenge(rt, "Challenge, output of 0 bytes", 2, 2, 1, 0, 1, 1, 0)
 }
 
 // Verdict with the lives' key, id and sizes n=3, m=2, M=2, N=3.
-fn judge(label: &[u8], expected: u64, rows: &[u8], tags: usize, message: &[u8], response: &[u8]) {
+fn judge(
+    rt: &impl Print,
+    label: &str,
+    expected: u64,
+    rows: &[u8],
+    tags: usize,
+    message: &[u8],
+    response: &[u8],
+) -> io::Result<()> {
     let judgement = audit::verdict(
         &counting_key(0),
         &ID,
@@ -97,65 +114,91 @@ fn judge(label: &[u8], expected: u64, rows: &[u8], tags: usize, message: &[u8], 
         message,
         response,
     );
-    cases::number(label, expected, audit::number(judgement) as u64);
+    cases::number(rt, label, expected, audit::number(judgement) as u64)
 }
 
 // On the response of the first life with byte `at` made b.
-fn judged(label: &[u8], expected: u64, rows: &[u8], at: usize, b: u8) {
+fn judged(
+    rt: &impl Print,
+    label: &str,
+    expected: u64,
+    rows: &[u8],
+    at: usize,
+    b: u8,
+) -> io::Result<()> {
     let mut response = RESPONSE;
     response[at % 17] = b;
-    judge(label, expected, rows, 1, &CHALLENGE, &response);
+    judge(rt, label, expected, rows, 1, &CHALLENGE, &response)
 }
 
-fn verdicts() {
-    judged(b"Verdict: accepted", 0, &ROWS, 0, 0x24);
-    judged(b"Verdict, a masked byte changed", 255, &ROWS, 1, 0x2b);
-    judged(b"Verdict, the mask sum changed", 255, &ROWS, 13, 0x62);
-    judged(b"Verdict, the seed alone changed", 0, &ROWS, 5, 0);
+fn verdicts(rt: &impl Print) -> io::Result<()> {
+    judged(rt, "Verdict: accepted", 0, &ROWS, 0, 0x24)?;
+    judged(rt, "Verdict, a masked byte changed", 255, &ROWS, 1, 0x2b)?;
+    judged(rt, "Verdict, the mask sum changed", 255, &ROWS, 13, 0x62)?;
+    judged(rt, "Verdict, the seed alone changed", 0, &ROWS, 5, 0)?;
     judged(
-        b"Verdict, rows exchanged",
+        rt,
+        "Verdict, rows exchanged",
         255,
         &[0x72, 0xfb, 0xf3, 0xfe],
         0,
         0x24,
-    );
-    judged(b"Verdict, rows of 3 bytes", 2, &[0xf3, 0xfe, 0x72], 0, 0x24);
-    judged(b"Verdict, response of node 1", 9, &ROWS, 0, 0x22);
+    )?;
+    judged(
+        rt,
+        "Verdict, rows of 3 bytes",
+        2,
+        &[0xf3, 0xfe, 0x72],
+        0,
+        0x24,
+    )?;
+    judged(rt, "Verdict, response of node 1", 9, &ROWS, 0, 0x22)
 }
 
-fn judged_of_three(label: &[u8], expected: u64, response: &[u8]) {
-    judge(label, expected, &ROWS, 3, &CHALLENGE, response);
+fn judged_of_three(rt: &impl Print, label: &str, expected: u64, response: &[u8]) -> io::Result<()> {
+    judge(rt, label, expected, &ROWS, 3, &CHALLENGE, response)
 }
 
 // A masked byte changes by 01, so each equation by the first element of its key vector: 04, 2d, 12. All of them have to hold.
-fn verdicts_of_three() {
+fn verdicts_of_three(rt: &impl Print) -> io::Result<()> {
     let mut response = RESPONSE_OF_THREE;
-    judged_of_three(b"Verdict, L=3: accepted", 0, &response);
+    judged_of_three(rt, "Verdict, L=3: accepted", 0, &response)?;
     response[1] = 0x2a ^ 0x01;
-    judged_of_three(b"Verdict, L=3, a masked byte changed", 255, &response);
+    judged_of_three(rt, "Verdict, L=3, a masked byte changed", 255, &response)?;
     response[13] = 0x63 ^ 0x04;
-    judged_of_three(b"Verdict, L=3, mask sum 0 with it", 255, &response);
+    judged_of_three(rt, "Verdict, L=3, mask sum 0 with it", 255, &response)?;
     response[14] = 0xce ^ 0x2d;
-    judged_of_three(b"Verdict, L=3, mask sums 0 and 1 with it", 255, &response);
+    judged_of_three(
+        rt,
+        "Verdict, L=3, mask sums 0 and 1 with it",
+        255,
+        &response,
+    )?;
     response[15] = 0x2b ^ 0x12;
-    judged_of_three(b"Verdict, L=3, all mask sums with it", 0, &response);
+    judged_of_three(rt, "Verdict, L=3, all mask sums with it", 0, &response)?;
     response[13] = 0x63;
-    judged_of_three(b"Verdict, L=3, mask sums 1 and 2 with it", 255, &response);
-    judged_of_three(b"Verdict, L=3, response one short", 2, &response[0..20]);
-    judged_of_three(b"Verdict, L=3, response one long", 2, &[0x24u8; 22]);
-    judged_of_three(b"Verdict, L=3, response of one tag", 2, &RESPONSE);
+    judged_of_three(
+        rt,
+        "Verdict, L=3, mask sums 1 and 2 with it",
+        255,
+        &response,
+    )?;
+    judged_of_three(rt, "Verdict, L=3, response one short", 2, &response[0..20])?;
+    judged_of_three(rt, "Verdict, L=3, response one long", 2, &[0x24u8; 22])?;
+    judged_of_three(rt, "Verdict, L=3, response of one tag", 2, &RESPONSE)
 }
 
 // Sizes that are refused, or that the challenged node is not among.
 fn sized(
-    label: &[u8],
+    rt: &impl Print,
+    label: &str,
     expected: u64,
     n: usize,
     m: usize,
     places: usize,
     nodes: usize,
     tags: usize,
-) {
+) -> io::Result<()> {
     let judgement = audit::verdict(
         &counting_key(0),
         &ID,
@@ -168,102 +211,126 @@ fn sized(
         &CHALLENGE,
         &RESPONSE,
     );
-    cases::number(label, expected, audit::number(judgement) as u64);
+    cases::number(rt, label, expected, audit::number(judgement) as u64)
 }
 
-fn sizes() {
-    sized(b"Verdict, n=2", 1, 2, 2, 2, 3, 1);
-    sized(b"Verdict, m=17", 1, 3, 17, 2, 3, 1);
-    sized(b"Verdict, M=2^63", 1, 3, 2, 9223372036854775808, 3, 1);
-    sized(b"Verdict, N=0", 1, 3, 2, 2, 0, 1);
-    sized(b"Verdict, L=0", 1, 3, 2, 2, 3, 0);
-    sized(b"Verdict, L=11", 1, 3, 2, 2, 3, 11);
-    sized(b"Verdict, L=2^63", 1, 3, 2, 2, 3, 9223372036854775808);
-    sized(b"Verdict, N=2", 4, 3, 2, 2, 2, 1);
-    sized(b"Verdict, n=4", 2, 4, 2, 2, 3, 1);
+fn sizes(rt: &impl Print) -> io::Result<()> {
+    sized(rt, "Verdict, n=2", 1, 2, 2, 2, 3, 1)?;
+    sized(rt, "Verdict, m=17", 1, 3, 17, 2, 3, 1)?;
+    sized(rt, "Verdict, M=2^63", 1, 3, 2, 9223372036854775808, 3, 1)?;
+    sized(rt, "Verdict, N=0", 1, 3, 2, 2, 0, 1)?;
+    sized(rt, "Verdict, L=0", 1, 3, 2, 2, 3, 0)?;
+    sized(rt, "Verdict, L=11", 1, 3, 2, 2, 3, 11)?;
+    sized(rt, "Verdict, L=2^63", 1, 3, 2, 2, 3, 9223372036854775808)?;
+    sized(rt, "Verdict, N=2", 4, 3, 2, 2, 2, 1)?;
+    sized(rt, "Verdict, n=4", 2, 4, 2, 2, 3, 1)
 }
 
-fn asked(label: &[u8], expected: u64, message: &[u8]) {
-    judge(label, expected, &ROWS, 1, message, &RESPONSE);
+fn asked(rt: &impl Print, label: &str, expected: u64, message: &[u8]) -> io::Result<()> {
+    judge(rt, label, expected, &ROWS, 1, message, &RESPONSE)
 }
 
-fn messages() {
-    asked(b"Verdict, no challenge", 9, &[]);
+fn messages(rt: &impl Print) -> io::Result<()> {
+    asked(rt, "Verdict, no challenge", 9, &[])?;
     asked(
-        b"Verdict, challenge of kind 2",
+        rt,
+        "Verdict, challenge of kind 2",
         9,
         &[0x24, 0x40, 0x1c, 0xda, 0x80],
-    );
+    )?;
     asked(
-        b"Verdict, challenge to node 6",
+        rt,
+        "Verdict, challenge to node 6",
         9,
         &[0x1c, 0x40, 0x1c, 0xda, 0x80],
-    );
-    asked(b"Verdict, challenge of no item", 9, &[0x14, 0x00]);
+    )?;
+    asked(rt, "Verdict, challenge of no item", 9, &[0x14, 0x00])?;
     asked(
-        b"Verdict, challenge with equal places",
+        rt,
+        "Verdict, challenge with equal places",
         9,
         &[0x14, 0x40, 0x1c, 0x1a, 0x80],
-    );
+    )?;
     asked(
-        b"Verdict, challenge with a last bit set",
+        rt,
+        "Verdict, challenge with a last bit set",
         9,
         &[0x14, 0x40, 0x1c, 0xda, 0x81],
-    );
+    )?;
     asked(
-        b"Verdict, challenge one byte long",
+        rt,
+        "Verdict, challenge one byte long",
         9,
         &[0x14, 0x40, 0x1c, 0xda, 0x80, 0],
-    );
-    asked(b"Verdict, challenge to place 2", 4, &[0x14, 0x28, 0x04]);
+    )?;
+    asked(rt, "Verdict, challenge to place 2", 4, &[0x14, 0x28, 0x04])
 }
 
 // By two rows, on a response of node 2 that is zeros behind its first byte, as any box can make it.
-fn of_zeros(label: &[u8], expected: u64, rows: &[u8], message: &[u8]) {
+fn of_zeros(
+    rt: &impl Print,
+    label: &str,
+    expected: u64,
+    rows: &[u8],
+    message: &[u8],
+) -> io::Result<()> {
     let mut response = [0u8; 17];
     response[0] = 0x24;
-    judge(label, expected, rows, 1, message, &response);
+    judge(rt, label, expected, rows, 1, message, &response)
 }
 
 // Combined rows that are zero, and rows of which a part is.
-fn zero_rows() {
-    of_zeros(b"Verdict, equal rows cancel", 11, &[2, 3, 2, 3], &EQUAL);
-    of_zeros(b"Verdict, doubles cancel", 11, &[2, 3, 4, 6], &DOUBLED);
-    of_zeros(b"Verdict, coefficients 00", 11, &[2, 3, 4, 5], &ZEROS);
-    of_zeros(b"Verdict, zero row named", 11, &[2, 3, 0, 0], &SECOND);
-    of_zeros(b"Verdict, zero row not named", 255, &[0, 0, 2, 3], &SECOND);
-    of_zeros(b"Verdict, no row cancels", 255, &[2, 3, 2, 3], &UNEQUAL);
-    of_zeros(b"Verdict, element 0 cancels", 255, &[2, 3, 2, 4], &EQUAL);
-    of_zeros(b"Verdict, element 1 cancels", 255, &[2, 3, 4, 3], &EQUAL);
-    asked(b"Verdict, coefficients 00, any response", 11, &ZEROS);
+fn zero_rows(rt: &impl Print) -> io::Result<()> {
+    of_zeros(rt, "Verdict, equal rows cancel", 11, &[2, 3, 2, 3], &EQUAL)?;
+    of_zeros(rt, "Verdict, doubles cancel", 11, &[2, 3, 4, 6], &DOUBLED)?;
+    of_zeros(rt, "Verdict, coefficients 00", 11, &[2, 3, 4, 5], &ZEROS)?;
+    of_zeros(rt, "Verdict, zero row named", 11, &[2, 3, 0, 0], &SECOND)?;
+    of_zeros(
+        rt,
+        "Verdict, zero row not named",
+        255,
+        &[0, 0, 2, 3],
+        &SECOND,
+    )?;
+    of_zeros(rt, "Verdict, no row cancels", 255, &[2, 3, 2, 3], &UNEQUAL)?;
+    of_zeros(rt, "Verdict, element 0 cancels", 255, &[2, 3, 2, 4], &EQUAL)?;
+    of_zeros(rt, "Verdict, element 1 cancels", 255, &[2, 3, 4, 3], &EQUAL)?;
+    asked(rt, "Verdict, coefficients 00, any response", 11, &ZEROS)?;
     judge(
-        b"Verdict, L=3, equal rows cancel",
+        rt,
+        "Verdict, L=3, equal rows cancel",
         11,
         &[2, 3, 2, 3],
         3,
         &EQUAL,
         &RESPONSE_OF_THREE,
-    );
+    )
 }
 
 // What is refused before a zero row.
-fn before_zero_rows() {
+fn before_zero_rows(rt: &impl Print) -> io::Result<()> {
     let zeros = [0u8; 4];
-    of_zeros(b"Verdict, zeros, no challenge", 9, &zeros, &[]);
-    of_zeros(b"Verdict, zeros, rows of 3 bytes", 2, &[0u8; 3], &EQUAL);
-    of_zeros(b"Verdict, zeros, place 2", 4, &zeros, &[0x14, 0x28, 0x04]);
-    judged(b"Verdict, zeros, response of node 1", 9, &zeros, 0, 0x22);
-    judged(b"Verdict, zeros", 11, &zeros, 0, 0x24);
+    of_zeros(rt, "Verdict, zeros, no challenge", 9, &zeros, &[])?;
+    of_zeros(rt, "Verdict, zeros, rows of 3 bytes", 2, &[0u8; 3], &EQUAL)?;
+    of_zeros(
+        rt,
+        "Verdict, zeros, place 2",
+        4,
+        &zeros,
+        &[0x14, 0x28, 0x04],
+    )?;
+    judged(rt, "Verdict, zeros, response of node 1", 9, &zeros, 0, 0x22)?;
+    judged(rt, "Verdict, zeros", 11, &zeros, 0, 0x24)
 }
 
-pub fn run() {
-    challenge_worked();
-    challenge_of_one();
-    challenge_refused();
-    verdicts();
-    verdicts_of_three();
-    sizes();
-    messages();
-    zero_rows();
-    before_zero_rows();
+pub fn run(rt: &impl Print) -> io::Result<()> {
+    challenge_worked(rt)?;
+    challenge_of_one(rt)?;
+    challenge_refused(rt)?;
+    verdicts(rt)?;
+    verdicts_of_three(rt)?;
+    sizes(rt)?;
+    messages(rt)?;
+    zero_rows(rt)?;
+    before_zero_rows(rt)
 }

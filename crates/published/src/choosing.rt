@@ -1,12 +1,13 @@
 // The greedy choice among five rows of two elements, each behind a byte that is no element. The third is twice the second.
 use choice::Rows;
+use std::io;
 
 const TABLE: [u8; 15] = [
     0xff, 0x00, 0x00, 0xff, 0x02, 0x03, 0xff, 0x04, 0x06, 0xff, 0x01, 0x00, 0xff, 0x05, 0x05,
 ];
 
 // How many rows are taken, how many candidates were consulted, the numbers of two rows, and their elements.
-fn chosen(label: &[u8], expected: &[u8], candidates: [u8; 48]) {
+fn chosen(rt: &impl Print, label: &str, expected: &[u8], candidates: [u8; 48]) -> io::Result<()> {
     let table = TABLE;
     let rows = Rows {
         start: 1,
@@ -18,6 +19,7 @@ fn chosen(label: &[u8], expected: &[u8], candidates: [u8; 48]) {
     let numbers = c.numbers;
     let taken = choice::rows_of(&table, rows, numbers, c.count);
     cases::bytes(
+        rt,
         label,
         expected,
         &[
@@ -30,24 +32,31 @@ fn chosen(label: &[u8], expected: &[u8], candidates: [u8; 48]) {
             taken[1][0],
             taken[1][1],
         ],
-    );
+    )
 }
 
-pub fn run() {
+pub fn run(rt: &impl Print) -> io::Result<()> {
     let mut candidates = [1u8; 48];
     chosen(
-        b"Choice among five rows",
+        rt,
+        "Choice among five rows",
         &[2, 4, 1, 3, 2, 3, 1, 0],
         candidates,
-    );
+    )?;
     candidates[1] = 0;
-    chosen(b"Without the second", &[2, 3, 2, 3, 4, 6, 1, 0], candidates);
+    chosen(
+        rt,
+        "Without the second",
+        &[2, 3, 2, 3, 4, 6, 1, 0],
+        candidates,
+    )?;
     candidates[2] = 0;
     candidates[4] = 0;
     chosen(
-        b"The first and the fourth alone",
+        rt,
+        "The first and the fourth alone",
         &[1, 2, 3, 0, 1, 0, 0, 0],
         candidates,
-    );
-    chosen(b"No candidate", &[0, 0, 0, 0, 0, 0, 0, 0], [0u8; 48]);
+    )?;
+    chosen(rt, "No candidate", &[0, 0, 0, 0, 0, 0, 0, 0], [0u8; 48])
 }

@@ -1,6 +1,8 @@
 // FIPS 197: products and inverses (4.2), the chain of xtime (4.2.1), the S-box (5.1.1), and every product against a second method.
 ghost use Rattle.std.specs.Prelude.{◌≤◌};
 
+use std::io;
+
 // Figure 7, row by row.
 const SBOX: [u8; 256] = *b"\x63\x7c\x77\x7b\xf2\x6b\x6f\xc5\x30\x01\x67\x2b\xfe\xd7\xab\x76\
     \xca\x82\xc9\x7d\xfa\x59\x47\xf0\xad\xd4\xa2\xaf\x9c\xa4\x72\xc0\
@@ -19,43 +21,50 @@ const SBOX: [u8; 256] = *b"\x63\x7c\x77\x7b\xf2\x6b\x6f\xc5\x30\x01\x67\x2b\xfe\
     \xe1\xf8\x98\x11\x69\xd9\x8e\x94\x9b\x1e\x87\xe9\xce\x55\x28\xdf\
     \x8c\xa1\x89\x0d\xbf\xe6\x42\x68\x41\x99\x2d\x0f\xb0\x54\xbb\x16";
 
-fn product(label: &[u8], a: u8, b: u8, expected: u8) {
-    cases::number(label, expected as u64, field::multiply(a, b) as u64);
+fn product(rt: &impl Print, label: &str, a: u8, b: u8, expected: u8) -> io::Result<()> {
+    cases::number(rt, label, expected as u64, field::multiply(a, b) as u64)
 }
 
-fn products() {
-    product(b"FIPS 197 4.2, 57 * 83", 0x57, 0x83, 0xc1);
-    product(b"FIPS 197 4.2.1, 57 * 02", 0x57, 0x02, 0xae);
-    product(b"FIPS 197 4.2.1, 57 * 04", 0x57, 0x04, 0x47);
-    product(b"FIPS 197 4.2.1, 57 * 08", 0x57, 0x08, 0x8e);
-    product(b"FIPS 197 4.2.1, 57 * 10", 0x57, 0x10, 0x07);
-    product(b"FIPS 197 4.2.1, 57 * 13", 0x57, 0x13, 0xfe);
+fn products(rt: &impl Print) -> io::Result<()> {
+    product(rt, "FIPS 197 4.2, 57 * 83", 0x57, 0x83, 0xc1)?;
+    product(rt, "FIPS 197 4.2.1, 57 * 02", 0x57, 0x02, 0xae)?;
+    product(rt, "FIPS 197 4.2.1, 57 * 04", 0x57, 0x04, 0x47)?;
+    product(rt, "FIPS 197 4.2.1, 57 * 08", 0x57, 0x08, 0x8e)?;
+    product(rt, "FIPS 197 4.2.1, 57 * 10", 0x57, 0x10, 0x07)?;
+    product(rt, "FIPS 197 4.2.1, 57 * 13", 0x57, 0x13, 0xfe)
 }
 
 // The zero-or-one factor of two operands, then their product.
-fn factored(label: &[u8], a: u8, b: u8, factor: u64, expected: u8) {
-    cases::number(label, factor, field::factor(a, b) as u64);
-    product(label, a, b, expected);
+fn factored(
+    rt: &impl Print,
+    label: &str,
+    a: u8,
+    b: u8,
+    factor: u64,
+    expected: u8,
+) -> io::Result<()> {
+    cases::number(rt, label, factor, field::factor(a, b) as u64)?;
+    product(rt, label, a, b, expected)
 }
 
-fn factors() {
-    factored(b"Factor and product, 00 * 00", 0x00, 0x00, 0, 0x00);
-    factored(b"Factor and product, 00 * 83", 0x00, 0x83, 0, 0x00);
-    factored(b"Factor and product, 57 * 00", 0x57, 0x00, 0, 0x00);
-    factored(b"Factor and product, 57 * 83", 0x57, 0x83, 1, 0xc1);
-    factored(b"Factor and product, 01 * 01", 0x01, 0x01, 1, 0x01);
-    factored(b"Factor and product, ff * ff", 0xff, 0xff, 1, 0x13);
+fn factors(rt: &impl Print) -> io::Result<()> {
+    factored(rt, "Factor and product, 00 * 00", 0x00, 0x00, 0, 0x00)?;
+    factored(rt, "Factor and product, 00 * 83", 0x00, 0x83, 0, 0x00)?;
+    factored(rt, "Factor and product, 57 * 00", 0x57, 0x00, 0, 0x00)?;
+    factored(rt, "Factor and product, 57 * 83", 0x57, 0x83, 1, 0xc1)?;
+    factored(rt, "Factor and product, 01 * 01", 0x01, 0x01, 1, 0x01)?;
+    factored(rt, "Factor and product, ff * ff", 0xff, 0xff, 1, 0x13)
 }
 
-fn inverse(label: &[u8], a: u8, expected: u8) {
-    cases::number(label, expected as u64, field::inverse(a) as u64);
+fn inverse(rt: &impl Print, label: &str, a: u8, expected: u8) -> io::Result<()> {
+    cases::number(rt, label, expected as u64, field::inverse(a) as u64)
 }
 
-fn inverses() {
-    inverse(b"Inverse of 00", 0x00, 0x00);
-    inverse(b"Inverse of 01", 0x01, 0x01);
-    inverse(b"Inverse of 53", 0x53, 0xca);
-    inverse(b"Inverse of ff", 0xff, 0x1c);
+fn inverses(rt: &impl Print) -> io::Result<()> {
+    inverse(rt, "Inverse of 00", 0x00, 0x00)?;
+    inverse(rt, "Inverse of 01", 0x01, 0x01)?;
+    inverse(rt, "Inverse of 53", 0x53, 0xca)?;
+    inverse(rt, "Inverse of ff", 0xff, 0x1c)
 }
 
 // Bit i of b.
@@ -79,12 +88,12 @@ fn substituted(x: u8) -> u8 {
     r
 }
 
-fn sbox() {
+fn sbox(rt: &impl Print) -> io::Result<()> {
     let mut got = [0u8; 256];
     for x in 0..256 {
         got[x] = substituted((x % 256) as u8);
     }
-    cases::bytes(b"FIPS 197 5.1.1, S-box", &SBOX, &got);
+    cases::bytes(rt, "FIPS 197 5.1.1, S-box", &SBOX, &got)
 }
 
 // The product of the polynomials a and b, of up to fifteen bits.
@@ -134,22 +143,23 @@ fn differences_with(a: u8) -> u64
     found
 }
 
-fn all_products() {
+fn all_products(rt: &impl Print) -> io::Result<()> {
     let mut found = 0u64;
     for a in 0usize..256 {
         found = found + differences_with((a % 256) as u8);
     }
     cases::number(
-        b"65536 products, differences from the second method",
+        rt,
+        "65536 products, differences from the second method",
         0,
         found,
-    );
+    )
 }
 
-pub fn run() {
-    products();
-    factors();
-    inverses();
-    sbox();
-    all_products();
+pub fn run(rt: &impl Print) -> io::Result<()> {
+    products(rt)?;
+    factors(rt)?;
+    inverses(rt)?;
+    sbox(rt)?;
+    all_products(rt)
 }

@@ -1,12 +1,13 @@
 // Vector: key vectors of the lives in numbers, and calls with any lengths and numbers.
 use cases::{ID, counting_key};
+use std::io;
 
 // Key 00 .. 1f, id 01 .. 08, n=3, m=2.
-fn worked(label: &[u8], s: usize, expected: [u8; 5]) {
+fn worked(rt: &impl Print, label: &str, s: usize, expected: [u8; 5]) -> io::Result<()> {
     let mut out = [0u8; 5];
     let answer = answer::number(tag::vector(&counting_key(0), &ID, 3, 2, s, &mut out));
-    cases::number(b"Vector's answer", 0, answer as u64);
-    cases::bytes(label, &expected, &out);
+    cases::number(rt, "Vector's answer", 0, answer as u64)?;
+    cases::bytes(rt, label, &expected, &out)
 }
 
 // The first element of vector s of a key that Setup refuses where it has two tags or more.
@@ -16,25 +17,28 @@ fn first_element(s: usize) -> u8 {
     out[0]
 }
 
-fn vectors() {
+fn vectors(rt: &impl Print) -> io::Result<()> {
     worked(
-        b"Vector, key 00 .. 1f, id 01 .. 08, n=3, m=2",
+        rt,
+        "Vector, key 00 .. 1f, id 01 .. 08, n=3, m=2",
         0,
         [0x04, 0x22, 0x0a, 0x59, 0x61],
-    );
-    worked(b"Vector, s=1", 1, [0x2d, 0xf9, 0x53, 0x39, 0xc5]);
-    worked(b"Vector, s=2", 2, [0x12, 0x8a, 0xcc, 0x81, 0x33]);
-    worked(b"Vector, s=9", 9, [0x8b, 0xdd, 0x36, 0x0e, 0x13]);
+    )?;
+    worked(rt, "Vector, s=1", 1, [0x2d, 0xf9, 0x53, 0x39, 0xc5])?;
+    worked(rt, "Vector, s=2", 2, [0x12, 0x8a, 0xcc, 0x81, 0x33])?;
+    worked(rt, "Vector, s=9", 9, [0x8b, 0xdd, 0x36, 0x0e, 0x13])?;
     cases::bytes(
-        b"Vectors 0, 1 and 2 of the key 00 .. 00 01 1f, first elements",
+        rt,
+        "Vectors 0, 1 and 2 of the key 00 .. 00 01 1f, first elements",
         &[0x9d, 0x00, 0xb3],
         &[first_element(0), first_element(1), first_element(2)],
-    );
+    )
 }
 
 // A refused call with buffers of these lengths, each below 65.
 fn refused(
-    label: &[u8],
+    rt: &impl Print,
+    label: &str,
     expected: u64,
     key: usize,
     id: usize,
@@ -42,7 +46,7 @@ fn refused(
     m: usize,
     s: usize,
     out: usize,
-) {
+) -> io::Result<()> {
     let keys = [0xa5u8; 64];
     let ids = keys;
     let mut lent = keys;
@@ -54,26 +58,36 @@ fn refused(
         s,
         &mut lent[0..out % 65],
     ));
-    cases::number(label, expected, answer as u64);
-    cases::kept(lent);
+    cases::number(rt, label, expected, answer as u64)?;
+    cases::kept(rt, lent)
 }
 
 // Sizes outside their ranges are refused with 1, before any length is looked at; a wrong length with 2.
-pub fn run() {
-    vectors();
-    refused(b"Vector, n=0", 1, 32, 8, 0, 2, 0, 5);
-    refused(b"Vector, n=2", 1, 32, 8, 2, 2, 0, 4);
-    refused(b"Vector, n=1025", 1, 32, 8, 1025, 2, 0, 5);
-    refused(b"Vector, n=2^63", 1, 0, 0, 9223372036854775808, 2, 0, 5);
-    refused(b"Vector, m=0", 1, 32, 8, 3, 0, 0, 3);
-    refused(b"Vector, m=17", 1, 32, 8, 3, 17, 0, 20);
-    refused(b"Vector, m=2^64-1", 1, 0, 0, 3, 18446744073709551615, 0, 5);
-    refused(b"Vector, s=10", 1, 32, 8, 3, 2, 10, 5);
-    refused(b"Vector, s=2^63", 1, 0, 0, 3, 2, 9223372036854775808, 5);
-    refused(b"Vector, key of 31 bytes", 2, 31, 8, 3, 2, 0, 5);
-    refused(b"Vector, no key", 2, 0, 8, 3, 2, 0, 5);
-    refused(b"Vector, id of 7 bytes", 2, 32, 7, 3, 2, 0, 5);
-    refused(b"Vector, output of 4 bytes", 2, 32, 8, 3, 2, 0, 4);
-    refused(b"Vector, output of 6 bytes", 2, 32, 8, 3, 2, 0, 6);
-    refused(b"Vector, output of 0 bytes", 2, 32, 8, 3, 2, 0, 0);
+pub fn run(rt: &impl Print) -> io::Result<()> {
+    vectors(rt)?;
+    refused(rt, "Vector, n=0", 1, 32, 8, 0, 2, 0, 5)?;
+    refused(rt, "Vector, n=2", 1, 32, 8, 2, 2, 0, 4)?;
+    refused(rt, "Vector, n=1025", 1, 32, 8, 1025, 2, 0, 5)?;
+    refused(rt, "Vector, n=2^63", 1, 0, 0, 9223372036854775808, 2, 0, 5)?;
+    refused(rt, "Vector, m=0", 1, 32, 8, 3, 0, 0, 3)?;
+    refused(rt, "Vector, m=17", 1, 32, 8, 3, 17, 0, 20)?;
+    refused(
+        rt,
+        "Vector, m=2^64-1",
+        1,
+        0,
+        0,
+        3,
+        18446744073709551615,
+        0,
+        5,
+    )?;
+    refused(rt, "Vector, s=10", 1, 32, 8, 3, 2, 10, 5)?;
+    refused(rt, "Vector, s=2^63", 1, 0, 0, 3, 2, 9223372036854775808, 5)?;
+    refused(rt, "Vector, key of 31 bytes", 2, 31, 8, 3, 2, 0, 5)?;
+    refused(rt, "Vector, no key", 2, 0, 8, 3, 2, 0, 5)?;
+    refused(rt, "Vector, id of 7 bytes", 2, 32, 7, 3, 2, 0, 5)?;
+    refused(rt, "Vector, output of 4 bytes", 2, 32, 8, 3, 2, 0, 4)?;
+    refused(rt, "Vector, output of 6 bytes", 2, 32, 8, 3, 2, 0, 6)?;
+    refused(rt, "Vector, output of 0 bytes", 2, 32, 8, 3, 2, 0, 0)
 }

@@ -1,4 +1,8 @@
 // Runs the vectors of RFC 8439 and FIPS 197, the worked values and hostile calls through the public functions below the archive.
+#![tactic(auto)]
+
+use std::io;
+
 mod audits;
 mod choosing;
 mod elimination;
@@ -8,13 +12,13 @@ mod masks;
 mod packing;
 mod rfc8439;
 
-fn main() {
-    rfc8439::run();
-    fips197::run();
-    packing::run();
-    key_vector::run();
-    masks::run();
-    audits::run();
-    elimination::run();
-    choosing::run();
+fn main(rt: HostRuntime) -> io::Result<()> {
+    rfc8439::run(&rt)?;
+    fips197::run(&rt)?;
+    packing::run(&rt)?;
+    key_vector::run(&rt)?;
+    masks::run(&rt)?;
+    audits::run(&rt)?;
+    elimination::run(&rt)?;
+    choosing::run(&rt)
 }

@@ -1,5 +1,6 @@
 // RFC 8439: the quarter round (2.1.1), the block function (2.3.2, appendix A.1) and keystreams (appendix A.2).
 use keystream::{Four, Stream};
+use std::io;
 
 const SECTION_2_3_2: [u8; 64] = *b"\x10\xf1\xe7\xe4\xd1\x3b\x59\x15\x50\x0f\xdd\x1f\xa3\x20\x71\xc4\
     \xc7\xd1\xf4\xc7\x33\xc0\x68\x03\x04\x22\xaa\x9a\xc3\xd4\x6c\x4e\
@@ -79,27 +80,34 @@ const CIPHER_3: [u8; 127] = *b"\x62\xe6\x34\x7f\x95\xed\x87\xa4\x5f\xfa\xe7\x42\
     \x04\xc6\xa8\xd1\xbc\xd1\xbf\x4d\x50\xd6\x15\x4b\x6d\xa7\x31\xb1\
     \x87\xb5\x8d\xfd\x72\x8a\xfa\x36\x75\x7a\x79\x7a\xc1\x88\xd1";
 
-fn quarter() {
+fn quarter(rt: &impl Print) -> io::Result<()> {
     let r = keystream::quarter_round(Four {
         a: 0x11111111,
         b: 0x01020304,
         c: 0x9b8d6f43,
         d: 0x01234567,
     });
-    cases::number(b"RFC 8439 2.1.1, a", 0xea2a92f4, r.a as u64);
-    cases::number(b"RFC 8439 2.1.1, b", 0xcb1cf8ce, r.b as u64);
-    cases::number(b"RFC 8439 2.1.1, c", 0x4581472e, r.c as u64);
-    cases::number(b"RFC 8439 2.1.1, d", 0x5881c4bb, r.d as u64);
+    cases::number(rt, "RFC 8439 2.1.1, a", 0xea2a92f4, r.a as u64)?;
+    cases::number(rt, "RFC 8439 2.1.1, b", 0xcb1cf8ce, r.b as u64)?;
+    cases::number(rt, "RFC 8439 2.1.1, c", 0x4581472e, r.c as u64)?;
+    cases::number(rt, "RFC 8439 2.1.1, d", 0x5881c4bb, r.d as u64)
 }
 
-fn block_case(label: &[u8], key: [u8; 32], counter: u32, nonce: [u8; 12], expected: &[u8]) {
+fn block_case(
+    rt: &impl Print,
+    label: &str,
+    key: [u8; 32],
+    counter: u32,
+    nonce: [u8; 12],
+    expected: &[u8],
+) -> io::Result<()> {
     let mut out = [0u8; 64];
     let answer = answer::number(keystream::block(&key, counter, &nonce, &mut out));
-    cases::number(b"Block's answer", 0, answer as u64);
-    cases::bytes(label, expected, &out);
+    cases::number(rt, "Block's answer", 0, answer as u64)?;
+    cases::bytes(rt, label, expected, &out)
 }
 
-fn blocks() {
+fn blocks(rt: &impl Print) -> io::Result<()> {
     let zero = [0u8; 32];
     let mut one = zero;
     one[31] = 1;
@@ -112,17 +120,18 @@ fn blocks() {
     nonce[3] = 9;
     nonce[7] = 0x4a;
     block_case(
-        b"RFC 8439 2.3.2",
+        rt,
+        "RFC 8439 2.3.2",
         cases::counting_key(0),
         1,
         nonce,
         &SECTION_2_3_2,
-    );
-    block_case(b"RFC 8439 A.1 #1", zero, 0, none, &BLOCK_1);
-    block_case(b"RFC 8439 A.1 #2", zero, 1, none, &BLOCK_2);
-    block_case(b"RFC 8439 A.1 #3", one, 1, none, &BLOCK_3);
-    block_case(b"RFC 8439 A.1 #4", ff, 2, none, &BLOCK_4);
-    block_case(b"RFC 8439 A.1 #5", zero, 0, two, &BLOCK_5);
+    )?;
+    block_case(rt, "RFC 8439 A.1 #1", zero, 0, none, &BLOCK_1)?;
+    block_case(rt, "RFC 8439 A.1 #2", zero, 1, none, &BLOCK_2)?;
+    block_case(rt, "RFC 8439 A.1 #3", one, 1, none, &BLOCK_3)?;
+    block_case(rt, "RFC 8439 A.1 #4", ff, 2, none, &BLOCK_4)?;
+    block_case(rt, "RFC 8439 A.1 #5", zero, 0, two, &BLOCK_5)
 }
 
 // The stream with the bytes of one block drawn.
@@ -158,7 +167,7 @@ fn encrypt(s: Stream, text: &mut [u8]) {
 }
 
 // Appendix A.2: the text added to the stream from the block that the vector's counter names.
-fn streams() {
+fn streams(rt: &impl Print) -> io::Result<()> {
     let zero = [0u8; 32];
     let mut one = zero;
     one[31] = 1;
@@ -167,50 +176,82 @@ fn streams() {
     two[11] = 2;
     let mut first = [0u8; 64];
     encrypt(Stream::new(zero, none), &mut first);
-    cases::bytes(b"RFC 8439 A.2 #1", &BLOCK_1, &first);
+    cases::bytes(rt, "RFC 8439 A.2 #1", &BLOCK_1, &first)?;
     let mut second = TEXT_2;
     encrypt(skipped(Stream::new(one, two), 1), &mut second);
-    cases::bytes(b"RFC 8439 A.2 #2", &CIPHER_2, &second);
+    cases::bytes(rt, "RFC 8439 A.2 #2", &CIPHER_2, &second)?;
     let mut third = TEXT_3;
     encrypt(skipped(Stream::new(KEY_3, two), 42), &mut third);
-    cases::bytes(b"RFC 8439 A.2 #3", &CIPHER_3, &third);
+    cases::bytes(rt, "RFC 8439 A.2 #3", &CIPHER_3, &third)
 }
 
-fn refused(label: &[u8], key: &[u8], nonce: &[u8], out: &mut [u8]) {
+fn refused(
+    rt: &impl Print,
+    label: &str,
+    key: &[u8],
+    nonce: &[u8],
+    out: &mut [u8],
+) -> io::Result<()> {
     let answer = answer::number(keystream::block(key, 0, nonce, out));
-    cases::number(label, 2, answer as u64);
+    cases::number(rt, label, 2, answer as u64)
 }
 
 // A wrong length is refused with 2, and the output keeps its bytes.
-fn refusals() {
+fn refusals(rt: &impl Print) -> io::Result<()> {
     let key = [0xa5u8; 32];
     let nonce = [0xa5u8; 12];
     let mut out = [0xa5u8; 64];
-    refused(b"Block, key of 31 bytes", &[0xa5u8; 31], &nonce, &mut out);
-    refused(b"Block, key of 33 bytes", &[0xa5u8; 33], &nonce, &mut out);
-    refused(b"Block, no key", &[0xa5u8; 0], &nonce, &mut out);
-    refused(b"Block, nonce of 11 bytes", &key, &[0xa5u8; 11], &mut out);
-    refused(b"Block, nonce of 13 bytes", &key, &[0xa5u8; 13], &mut out);
-    cases::bytes(b"Block, output after refusals", &[0xa5u8; 64], &out);
+    refused(
+        rt,
+        "Block, key of 31 bytes",
+        &[0xa5u8; 31],
+        &nonce,
+        &mut out,
+    )?;
+    refused(
+        rt,
+        "Block, key of 33 bytes",
+        &[0xa5u8; 33],
+        &nonce,
+        &mut out,
+    )?;
+    refused(rt, "Block, no key", &[0xa5u8; 0], &nonce, &mut out)?;
+    refused(
+        rt,
+        "Block, nonce of 11 bytes",
+        &key,
+        &[0xa5u8; 11],
+        &mut out,
+    )?;
+    refused(
+        rt,
+        "Block, nonce of 13 bytes",
+        &key,
+        &[0xa5u8; 13],
+        &mut out,
+    )?;
+    cases::bytes(rt, "Block, output after refusals", &[0xa5u8; 64], &out)?;
     let mut short = [0xa5u8; 63];
-    refused(b"Block, output of 63 bytes", &key, &nonce, &mut short);
+    refused(rt, "Block, output of 63 bytes", &key, &nonce, &mut short)?;
     cases::bytes(
-        b"Block, output of 63 bytes after its refusal",
+        rt,
+        "Block, output of 63 bytes after its refusal",
         &[0xa5u8; 63],
         &short,
-    );
+    )?;
     let mut long = [0xa5u8; 65];
-    refused(b"Block, output of 65 bytes", &key, &nonce, &mut long);
+    refused(rt, "Block, output of 65 bytes", &key, &nonce, &mut long)?;
     cases::bytes(
-        b"Block, output of 65 bytes after its refusal",
+        rt,
+        "Block, output of 65 bytes after its refusal",
         &[0xa5u8; 65],
         &long,
-    );
+    )
 }
 
-pub fn run() {
-    quarter();
-    blocks();
-    streams();
-    refusals();
+pub fn run(rt: &impl Print) -> io::Result<()> {
+    quarter(rt)?;
+    blocks(rt)?;
+    streams(rt)?;
+    refusals(rt)
 }

@@ -1,4 +1,6 @@
 // Read: the file, from the first places whose rows determine it.
+#![tactic(auto)]
+
 mod choosing;
 mod solving;
 

@@ -1,4 +1,6 @@
 // The sizes of an archive, their ranges, and the lengths that they make.
+#![tactic(auto)]
+
 ghost use Rattle.std.specs.Prelude.{◌≡◌, false, ◌<◌, ◌≤◌};
 ghost use Rattle.sizes.specs.Sizes.{n_outside, m_outside, tags_outside, tag_outside, sizes_outside};
 ghost use Rattle.sizes.specs.Lengths.{record_length, archive_length, record_start, mark_count, record_most};
@@ -59,7 +61,7 @@ pub const VECTOR_MOST: usize = 17 * STREAM_BLOCK_LENGTH;
 pub const VECTORS_MOST: usize = TAGS_MOST * N_MOST;
 
 // n, m, the places of a node, the nodes and the tags. The scheme: n, m, M (places a box), N (boxes), L.
-#[derive(Drop)]
+#[derive(Clone, Copy)]
 pub struct Sizes {
     pub n: usize,
     pub m: usize,

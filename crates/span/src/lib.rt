@@ -1,4 +1,6 @@
 // The archive's operations for C and Rust: numbers and byte slices in, the answer's number out (include/span_archive.h).
+#![tactic(auto)]
+
 ghost use Rattle.std.specs.Prelude.{◌≡◌, ◌<◌, length};
 ghost use Rattle.answer.specs.declared.Outcome.{Outcome};
 ghost use Rattle.answer.specs.Numbers.{outcome_number, NumberedAnswer};

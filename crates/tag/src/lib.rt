@@ -1,4 +1,6 @@
 // Key vectors and tags (NC-Audit): F1, and the tags of a block.
+#![tactic(auto)]
+
 ghost use Rattle.std.specs.Prelude.{◌≡◌, ◌∷◌, ◌+◌, ◌*◌, ◌<◌, ◌≤◌, length};
 ghost use Rattle.lists.specs.Lists.{at, tab, put};
 ghost use Rattle.sizes.specs.Lengths.{key_length, id_length, stream_block_length, tags_most};

@@ -1,0 +1,46 @@
+use mathlib.Core.Path.{refl}
+use native.Mathlib.Omega.{arith}
+use native.Mathlib.Nat.{mul-le-mul}
+use Rattle.sizes.specs.Lengths.{places_most, record_most}
+use Rattle.gathering.proofs.GatherLaws.{gather_ranged, gather_sized, places_low, long_enough, share_long, share_fits, records_fit, node_gathered}
+use Rattle.gathering.proofs.copying.copy_node.Goals as goal
+
+pub sizes_in-z-requires : goal.sizes_in-z-requires
+sizes_in-z-requires c = omega (arith, long_enough _ _ _ c.requires refl)
+
+pub overflow_mul-k : goal.overflow_mul-k
+overflow_mul-k c = omega (arith, places_low _ _ _ c.requires c.sizes_in-z.ensures)
+
+pub copy_marks-requires : goal.copy_marks-requires
+copy_marks-requires c =
+    let done = c.requires in
+    (places_low _ _ _ done c.sizes_in-z.ensures, long_enough _ _ _ done refl, share_long _ _ _ done refl)
+
+pub record_start-start-requires : goal.record_start-start-requires
+record_start-start-requires c =
+    let done = c.requires in
+    let read = c.sizes_in-z.ensures in
+    (gather_sized _ _ _ done read, omega (arith, places_low _ _ _ done read, (gather_ranged _ _ _ done read).places_low))
+
+pub record_length-requires : goal.record_length-requires
+record_length-requires c =
+    gather_sized _ _ _ c.requires c.sizes_in-z.ensures
+
+pub overflow_mul-len : goal.overflow_mul-len
+overflow_mul-len c =
+    let high = (gather_ranged _ _ _ c.requires c.sizes_in-z.ensures).places_high in
+    omega (arith, mul-le-mul {n₂ = places_most} {m₂ = record_most} high c.record_length.ensures.1)
+
+pub store-requires : goal.store-requires
+store-requires c =
+    let done = c.requires in
+    let read = c.sizes_in-z.ensures in
+    let len = c.record_length.ensures.0 in (
+      share_fits _ _ _ done read c.record_start-start.ensures len,
+      records_fit _ _ _ done read c.record_start-start.ensures len _ c.copy_marks.ensures,
+    )
+
+pub returns : goal.returns
+returns c =
+    node_gathered _ _ _ c.requires c.sizes_in-z.ensures c.record_start-start.ensures
+    c.record_length.ensures.0 c.copy_marks.ensures c.store.ensures

@@ -1,0 +1,18 @@
+use Rattle.std.proofs.Common.{◌≡◌, ℕ, ◌+◌, ◌-◌, ◌*◌, ◌≤◌, [], length, take, refl, ap, ◌∙◌, arith, length-set, rules}
+use Rattle.lists.specs.Lists.{at, tab}
+use Rattle.lists.proofs.TabLaws.{tab_none, tab_more, tab_all}
+use Rattle.keystream.specs.PrivateStream.{pairs_of}
+use Rattle.keystream.proofs.chacha.block_pairs.Goals as goal
+
+pub loop-i-init : goal.loop-i-init
+loop-i-init c = (omega arith, refl, tab_none _ [])
+
+pub loop-i-preserved : goal.loop-i-preserved
+loop-i-preserved c =
+    let l = c.loop-i in (omega arith, simp length-set l.invariant.1, tab_more _ l.i l.o (omega arith) l.invariant.2 (cc))
+
+pub returns : goal.returns
+unfolding pairs_of
+returns c =
+    let l = c.loop-i in
+    tab_all _ _ l.i l.o (omega arith) l.invariant.1 l.invariant.2 ∙ ap pairs_of c.block_words-t.ensures

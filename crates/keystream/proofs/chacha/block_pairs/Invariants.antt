@@ -1,0 +1,8 @@
+use Rattle.std.proofs.Common.{◌≡◌, ℕ, ◌+◌, ◌-◌, ◌*◌, ◌≤◌, [], length, take, refl, ap, ◌∙◌, arith, length-set, rules}
+use Rattle.lists.specs.Lists.{at, tab}
+use Rattle.lists.proofs.TabLaws.{tab_none, tab_more, tab_all}
+use Rattle.keystream.specs.PrivateStream.{pairs_of}
+use Rattle.keystream.proofs.chacha.block_pairs.Given as goal
+
+abbrev pub invariant-loop-i : goal.invariant-loop-i
+invariant-loop-i l = (l.i ≤ 8) × (length l.o ≡ 8) × (take l.i l.o ≡ tab l.i (λ (k : ℕ). at l.t (k * 2) + 4294967296 * at l.t (k * 2 + 1)))

@@ -1,0 +1,7 @@
+use Prim.Native.Nat.{◌≤◌}
+use Rattle.losses.proofs.ListLaws.{ListedSets}
+use Rattle.losses.proofs.list_losses.Given as goal
+
+-- The loop has listed what hurts among the first x sets. Assumes nothing.
+abbrev pub invariant-loop-x : goal.invariant-loop-x
+invariant-loop-x l = (l.x ≤ 64) × (l.z.nodes ≤ 6) × (l.k ≤ l.z.nodes) × ListedSets l.z l.archive l.k l.x l.count l.sets

@@ -1,0 +1,8 @@
+use Rattle.mask.proofs.SetupLaws.{auxiliary_of}
+use Rattle.mask.proofs.setup_into.Goals as goal
+
+pub returns : goal.returns
+returns c =
+    let high = c.requires.1 in
+    auxiliary_of _ _ _ _ _ c.key_vectors-vectors.result c.key_array.ensures c.key_vectors-vectors.ensures high
+    c.auxiliary_into.ensures

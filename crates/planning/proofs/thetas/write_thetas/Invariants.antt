@@ -1,0 +1,15 @@
+use Prim.Native.Nat.{◌≤◌}
+use mathlib.Core.Path.{◌≡◌}
+use lib.ListN.{length}
+use Rattle.lists.specs.Lists.{at, grid}
+use Rattle.vector.specs.Vectors.{product}
+use Rattle.linear.specs.PrivateElimination.{cells}
+use Rattle.archive.specs.Plan.{wanted_row}
+use Rattle.planning.specs.PrivatePlan.{row_for}
+use Rattle.planning.proofs.thetas.write_thetas.Given as goal
+
+-- The loop has written the thetas of the first t blocks. Assumes nothing.
+abbrev pub invariant-loop-t : goal.invariant-loop-t
+invariant-loop-t l =
+    (l.t ≤ l.blocks) × (length l.thetas ≡ length l.initial.thetas)
+    × (l.thetas ≡ grid l.t l.z.places 0 (λ j k. product l.z.m (wanted_row l.z l.rows k) (row_for l.count (at l.numbers) (cells l.combinations) j)) l.initial.thetas)

@@ -1,0 +1,59 @@
+use mathlib.Core.Path.{sym, ◌∙◌}
+use native.Mathlib.Omega.{arith}
+use Rattle.sizes.proofs.SizeLaws.{response_sizes, not_sizes_outside}
+use Rattle.answer.proofs.RefusalLaws.{refused, passed, listed}
+use Rattle.archive.specs.Prove.{prove_for, prove_answer}
+use Rattle.archive.proofs.GoodArchiveLaws.{good_length}
+use Rattle.archive.proofs.CallLaws.{read_sizes}
+use Rattle.proving.proofs.prove_check.Goals as goal
+
+pub returns-then-bad_archive : goal.returns-then-bad_archive
+unfolding prove_answer
+returns-then-bad_archive c = sym (refused _ _ (cc))
+
+pub returns-then-malformed : goal.returns-then-malformed
+unfolding prove_answer
+returns-then-malformed c = sym (passed _ _ (cc) ∙ refused _ _ (cc))
+
+pub sizes_in-z-requires : goal.sizes_in-z-requires
+sizes_in-z-requires c =
+    omega (arith, good_length _ (sym c.bad_archive.ensures ∙ c.if-bad_archive.false))
+
+pub auxiliary_length-requires : goal.auxiliary_length-requires
+auxiliary_length-requires c = response_sizes _ (not_sizes_outside _ (read_sizes _ c.sizes_in-z.ensures (cc)))
+
+pub response_length-requires : goal.response_length-requires
+response_length-requires c = response_sizes _ (not_sizes_outside _ (read_sizes _ c.sizes_in-z.ensures (cc)))
+
+pub returns-then-mask_key-auxiliary : goal.returns-then-mask_key-auxiliary
+unfolding prove_answer prove_for
+returns-then-mask_key-auxiliary c = sym (passed _ _ (cc) ∙ passed _ _ (cc) ∙ refused _ _ (listed _ _ (cc)))
+
+pub not_there-requires : goal.not_there-requires
+not_there-requires c = cc
+
+pub returns-then-not_there : goal.returns-then-not_there
+unfolding prove_answer prove_for
+returns-then-not_there c =
+    sym (
+    passed _ _ (cc) ∙ passed _ _ (cc) ∙ passed _ _ (listed _ _ (cc))
+    ∙ refused _ _ (rw (← c.sizes_in-z.ensures) (sym c.not_there.ensures ∙ c.if-not_there.true)))
+
+pub any_named_empty-requires : goal.any_named_empty-requires
+any_named_empty-requires c = (cc, cc, rw (← c.sizes_in-z.ensures) (sym c.not_there.ensures ∙ c.if-not_there.false))
+
+pub returns-then-any_named_empty : goal.returns-then-any_named_empty
+unfolding prove_answer prove_for
+returns-then-any_named_empty c =
+    sym (
+    passed _ _ (cc) ∙ passed _ _ (cc) ∙ passed _ _ (listed _ _ (cc))
+    ∙ passed _ _ (rw (← c.sizes_in-z.ensures) (sym c.not_there.ensures ∙ c.if-not_there.false))
+    ∙ refused _ _ (sym c.any_named_empty.ensures ∙ c.if-any_named_empty.true))
+
+pub returns : goal.returns
+unfolding prove_answer prove_for
+returns c =
+    sym (
+    passed _ _ (cc) ∙ passed _ _ (cc) ∙ passed _ _ (listed _ _ (cc))
+    ∙ passed _ _ (rw (← c.sizes_in-z.ensures) (sym c.not_there.ensures ∙ c.if-not_there.false))
+    ∙ passed _ _ (sym c.any_named_empty.ensures ∙ c.if-any_named_empty.false))

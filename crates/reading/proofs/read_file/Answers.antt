@@ -1,0 +1,53 @@
+use mathlib.Core.Path.{sym, ap, ◌∙◌}
+use native.Mathlib.Omega.{arith}
+use Rattle.sizes.specs.Lengths.{file_length}
+use Rattle.sizes.proofs.SizeLaws.{not_sizes_outside}
+use Rattle.archive.proofs.GoodArchiveLaws.{good_length}
+use Rattle.archive.proofs.CallLaws.{read_sizes, read_length}
+use Rattle.reading.proofs.ReadingLaws.{chosen_alike}
+use Rattle.reading.proofs.FileLaws.{refuses, reads}
+use Rattle.reading.proofs.read_file.Goals as goal
+
+pub sizes_in-z-requires : goal.sizes_in-z-requires
+sizes_in-z-requires c = omega (arith, good_length _ c.requires.0)
+
+pub marks-requires : goal.marks-requires
+marks-requires c =
+    (not_sizes_outside _ (read_sizes _ c.sizes_in-z.ensures c.requires.0), omega (arith, good_length _ c.requires.0))
+
+pub take-chosen-requires : goal.take-chosen-requires
+take-chosen-requires c =
+    let read = c.sizes_in-z.ensures in
+    (not_sizes_outside _ (read_sizes _ read c.requires.0), read_length _ read c.requires.0)
+
+pub eliminate-combinations-requires : goal.eliminate-combinations-requires
+eliminate-combinations-requires c =
+    let read = c.sizes_in-z.ensures in
+    let w = c.take-chosen.ensures in (
+      not_sizes_outside _ (read_sizes _ read c.requires.0),
+      read_length _ read c.requires.0,
+      w.choice.fits,
+      λ t h. omega (arith, w.choice.below t h, w.there),
+    )
+
+pub returns-then-rank-z : goal.returns-then-rank-z
+returns-then-rank-z c =
+    refuses _ _ _ (chosen_alike _ _ _ _ _ c.marks.ensures c.take-chosen.ensures) _ _ c.eliminate-combinations.ensures _
+    c.requires.0 c.sizes_in-z.ensures c.requires.1 c.if-rank-z.true
+
+pub solve-requires : goal.solve-requires
+solve-requires c =
+    let w = c.take-chosen.ensures in
+    let r = c.eliminate-combinations.ensures in (
+      not_sizes_outside _ (read_sizes _ c.sizes_in-z.ensures c.requires.0),
+      λ t h. omega (arith, w.choice.below t (omega (arith, h, c.if-rank-z.false, r.at_most_rows)), w.there),
+      read_length _ c.sizes_in-z.ensures c.requires.0,
+      c.requires.1 ∙ sym (ap file_length c.sizes_in-z.ensures),
+    )
+
+pub returns : goal.returns
+returns c =
+    let reduced = c.eliminate-combinations.ensures in
+    reads _ _ _ (chosen_alike _ _ _ _ _ c.marks.ensures c.take-chosen.ensures) _ _ reduced _
+    c.requires.0 c.sizes_in-z.ensures c.requires.1 (λ i. (c.type_inv.archive i).fits)
+    (omega (arith, c.if-rank-z.false, reduced.at_most_columns)) c.solve.ensures

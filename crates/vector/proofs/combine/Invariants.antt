@@ -1,0 +1,13 @@
+use borrow.Author.Rules.{rules}
+use Prim.Native.Nat.{◌≤◌, ◌-◌, ◌+◌, ◌*◌}
+use mathlib.Core.Path.{◌≡◌, refl}
+use native.Mathlib.Omega.{arith}
+use lib.ListN.{length}
+use Rattle.lists.specs.Lists.{at}
+use Rattle.vector.specs.Vectors.{mixed, added}
+use Rattle.vector.proofs.AddedLaws.{mixed_none, mixed_more, coefficient_in, vector_in}
+use Rattle.vector.proofs.combine.Given as goal
+
+abbrev pub invariant-loop-i : goal.invariant-loop-i
+invariant-loop-i l =
+    (l.i ≤ l.count) × (length l.out ≡ length l.initial.out) × (l.out ≡ added l.len l.from (mixed l.i (λ j. at l.c (l.first + j * l.step)) (λ j e. at l.u (l.start + j * l.len + e))) l.initial.out)
