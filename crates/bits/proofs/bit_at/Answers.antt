@@ -1,5 +1,4 @@
 use Rattle.bits.proofs.PackLaws.{bit_read}
-use borrow.Author.Rules.{rules}
 use Rattle.bits.proofs.bit_at.Goals as goal
 
 pub returns : goal.returns

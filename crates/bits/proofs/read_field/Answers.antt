@@ -1,8 +1,5 @@
-use borrow.Author.Rules.{rules}
 use native.Mathlib.Omega.{arith}
 use mathlib.Core.Path.{◌≡◌, sym}
-use Prim.Native.Nat.{◌-◌, ◌≤◌}
-use Rattle.bits.specs.Fields.{field_at}
 use Rattle.bits.proofs.PackLaws.{bit_flag, field_none, field_more, field_small}
 use Rattle.bits.proofs.read_field.Goals as goal
 

@@ -1,10 +1,7 @@
-use borrow.Author.Rules.{rules}
 use native.Mathlib.Omega.{arith}
 use mathlib.Core.Path.{◌≡◌, refl, ap, ◌∙◌}
-use Prim.Native.Nat.{◌-◌, ◌≤◌}
 use lib.ListN.{length}
-use Rattle.lists.specs.Lists.{over}
-use Rattle.bits.specs.Fields.{bit_of, packed, bit_at, with_field}
+use Rattle.bits.specs.Fields.{with_field}
 use Rattle.bits.proofs.WriteLaws.{write_length, bits_none, bits_more}
 use Rattle.bits.proofs.write_field.Goals as goal
 

@@ -1,11 +1,8 @@
-use borrow.Author.Rules.{rules}
-use native.Mathlib.Omega.{arith}
-use mathlib.Core.Path.{◌≡◌, refl, ap, ◌∙◌}
-use Prim.Native.Nat.{◌-◌, ◌≤◌}
+use mathlib.Core.Path.{◌≡◌}
+use Prim.Native.Nat.{◌≤◌}
 use lib.ListN.{length}
 use Rattle.lists.specs.Lists.{over}
-use Rattle.bits.specs.Fields.{bit_of, packed, bit_at, with_field}
-use Rattle.bits.proofs.WriteLaws.{write_length, bits_none, bits_more}
+use Rattle.bits.specs.Fields.{bit_of, packed, bit_at}
 use Rattle.bits.proofs.write_field.Given as goal
 
 -- The loop has written the first i bits: the bytes have these bits in the places from `from` on, and their old ones elsewhere. Assumes nothing.

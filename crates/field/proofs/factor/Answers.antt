@@ -2,7 +2,6 @@ use mathlib.Core.Path.{ap₂}
 use Prim.Native.Nat.{◌*◌}
 use native.Mathlib.Omega.{arith}
 use Rattle.field.proofs.FactorLaws.{ordinary_low, ordinary_some}
-use borrow.Author.Rules.{rules}
 use Rattle.field.proofs.factor.Goals as goal
 
 pub overflow_mul-result : goal.overflow_mul-result

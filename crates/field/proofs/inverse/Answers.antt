@@ -2,7 +2,6 @@ use mathlib.Core.Path.{sym, ap, ◌∙◌}
 use native.Mathlib.Omega.{arith}
 use Rattle.field.specs.Field.{inverse_of}
 use Rattle.field.proofs.InverseLaws.{inverse_power, inverse_zero}
-use borrow.Author.Rules.{rules}
 use Rattle.field.proofs.inverse.Goals as goal
 
 pub returns-then-a-eq0 : goal.returns-then-a-eq0

@@ -4,7 +4,6 @@ use native.Mathlib.Omega.{arith}
 use Rattle.lists.specs.Lists.{at}
 use Rattle.field.specs.Field.{power}
 use Rattle.field.specs.PrivateTables.{logs_start}
-use borrow.Author.Rules.{rules}
 use Rattle.field.proofs.log.Goals as goal
 
 pub returns : goal.returns

@@ -1,7 +1,6 @@
 use mathlib.Core.Path.{◌∙◌}
 use native.Mathlib.Omega.{arith}
 use Rattle.field.proofs.FactorLaws.{factored_low, factored}
-use borrow.Author.Rules.{rules}
 use Rattle.field.proofs.product_by_log.Goals as goal
 
 pub overflow_mul-result : goal.overflow_mul-result
@@ -12,4 +11,4 @@ overflow_cast-result c = omega (arith, factored_low _ _ c.widen-p.ensures.1 c.fa
 
 pub returns : goal.returns
 returns c =
-        factored _ _ _ c.factor-f.ensures.bit c.factor-f.ensures.one _ _ c.requires.2 c.log.ensures.1 (c.widen-p.ensures.0 ∙ c.exp.ensures)
+    factored _ _ _ c.factor-f.ensures.bit c.factor-f.ensures.one _ _ c.requires.2 c.log.ensures.1 (c.widen-p.ensures.0 ∙ c.exp.ensures)

@@ -1,4 +1,3 @@
-use borrow.Author.Rules.{rules}
 use Prim.Native.Nat.{◌+◌, ◌*◌}
 use mathlib.Core.Path.{ap}
 use native.Mathlib.Nat.{mul-le-mul}
@@ -18,6 +17,6 @@ pub overflow_add-result : goal.overflow_add-result
 overflow_add-result c = omega (arith, mul-le-mul {n₂ = mark_count} {m₂ = record_most} (count_low _ (ranged _ c.requires)) c.record_length.ensures.1)
 
 pub returns : goal.returns
-returns c = 
+returns c =
     let z = c.args.z in
     ap (λ r. 18 + z.nodes * z.places * r) c.record_length.ensures.0

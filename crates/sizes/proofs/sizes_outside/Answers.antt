@@ -1,4 +1,3 @@
-use borrow.Author.Rules.{rules}
 use mathlib.Core.Path.{ap₂, ◌∙◌}
 use mathlib.Core.Bool.{◌||◌}
 use Rattle.lists.proofs.AnyLaws.{any_of_lem}
@@ -7,8 +6,8 @@ use Rattle.sizes.proofs.sizes_outside.Goals as goal
 
 pub returns : goal.returns
 unfolding sizes_outside
-returns c = 
-            ap₂ ◌||◌
+returns c =
+    ap₂ ◌||◌
     (ap₂ ◌||◌ (ap₂ ◌||◌ (ap₂ ◌||◌ c.n_outside.ensures c.m_outside.ensures) c.outside.ensures) c.outside-2.ensures)
     c.tags_outside.ensures
     ∙ any_of_lem _ _

@@ -1,11 +1,6 @@
 use borrow.Author.Rules.{rules}
-use Prim.Native.Nat.{◌≤◌, ◌-◌, ◌+◌}
 use mathlib.Core.Path.{◌≡◌, refl}
 use native.Mathlib.Omega.{arith}
-use lib.ListN.{length}
-use Rattle.lists.specs.Lists.{at}
-use Rattle.field.specs.Field.{times}
-use Rattle.vector.specs.Vectors.{added}
 use Rattle.vector.proofs.AddedLaws.{added_none, added_step}
 use Rattle.vector.proofs.add_multiple.Goals as goal
 

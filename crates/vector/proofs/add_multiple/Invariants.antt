@@ -1,12 +1,9 @@
-use borrow.Author.Rules.{rules}
-use Prim.Native.Nat.{◌≤◌, ◌-◌, ◌+◌}
-use mathlib.Core.Path.{◌≡◌, refl}
-use native.Mathlib.Omega.{arith}
+use Prim.Native.Nat.{◌≤◌, ◌+◌}
+use mathlib.Core.Path.{◌≡◌}
 use lib.ListN.{length}
 use Rattle.lists.specs.Lists.{at}
 use Rattle.field.specs.Field.{times}
 use Rattle.vector.specs.Vectors.{added}
-use Rattle.vector.proofs.AddedLaws.{added_none, added_step}
 use Rattle.vector.proofs.add_multiple.Given as goal
 
 abbrev pub invariant-loop-e : goal.invariant-loop-e

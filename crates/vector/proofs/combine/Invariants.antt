@@ -1,11 +1,8 @@
-use borrow.Author.Rules.{rules}
-use Prim.Native.Nat.{◌≤◌, ◌-◌, ◌+◌, ◌*◌}
-use mathlib.Core.Path.{◌≡◌, refl}
-use native.Mathlib.Omega.{arith}
+use Prim.Native.Nat.{◌≤◌, ◌+◌, ◌*◌}
+use mathlib.Core.Path.{◌≡◌}
 use lib.ListN.{length}
 use Rattle.lists.specs.Lists.{at}
 use Rattle.vector.specs.Vectors.{mixed, added}
-use Rattle.vector.proofs.AddedLaws.{mixed_none, mixed_more, coefficient_in, vector_in}
 use Rattle.vector.proofs.combine.Given as goal
 
 abbrev pub invariant-loop-i : goal.invariant-loop-i

@@ -1,8 +1,6 @@
-use borrow.Author.Rules.{rules}
-use Prim.Native.Nat.{◌≤◌, ◌-◌}
 use mathlib.Core.Path.{refl}
 use native.Mathlib.Omega.{arith}
-use Rattle.field.proofs.LaidLaws.{Partly, laid_none, laid_more, laid_all}
+use Rattle.field.proofs.LaidLaws.{laid_none, laid_more, laid_all}
 use Rattle.field.proofs.constants.laid.Goals as goal
 
 pub loop-i-init : goal.loop-i-init

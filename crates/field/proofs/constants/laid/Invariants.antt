@@ -1,8 +1,5 @@
-use borrow.Author.Rules.{rules}
-use Prim.Native.Nat.{◌≤◌, ◌-◌}
-use mathlib.Core.Path.{refl}
-use native.Mathlib.Omega.{arith}
-use Rattle.field.proofs.LaidLaws.{Partly, laid_none, laid_more, laid_all}
+use Prim.Native.Nat.{◌≤◌}
+use Rattle.field.proofs.LaidLaws.{Partly}
 use Rattle.field.proofs.constants.laid.Given as goal
 
 abbrev pub invariant-loop-i : goal.invariant-loop-i

@@ -1,4 +1,3 @@
-use borrow.Author.Rules.{rules}
 use Rattle.lists.proofs.AllLaws.{all}
 use Rattle.field.specs.Field.{sum, modulus, xtime, xtimes, times}
 use Rattle.field.proofs.TableLaws.{pass, tables_pass}

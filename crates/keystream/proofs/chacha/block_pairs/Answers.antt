@@ -1,5 +1,4 @@
-use Rattle.std.proofs.Common.{◌≡◌, ℕ, ◌+◌, ◌-◌, ◌*◌, ◌≤◌, [], length, take, refl, ap, ◌∙◌, arith, length-set, rules}
-use Rattle.lists.specs.Lists.{at, tab}
+use Rattle.std.proofs.Common.{[], refl, ap, ◌∙◌, arith, length-set}
 use Rattle.lists.proofs.TabLaws.{tab_none, tab_more, tab_all}
 use Rattle.keystream.specs.PrivateStream.{pairs_of}
 use Rattle.keystream.proofs.chacha.block_pairs.Goals as goal

@@ -1,7 +1,5 @@
-use Rattle.std.proofs.Common.{◌≡◌, ℕ, ◌+◌, ◌-◌, ◌*◌, ◌≤◌, [], length, take, refl, ap, ◌∙◌, arith, length-set, rules}
+use Rattle.std.proofs.Common.{◌≡◌, ℕ, ◌+◌, ◌*◌, ◌≤◌, length, take}
 use Rattle.lists.specs.Lists.{at, tab}
-use Rattle.lists.proofs.TabLaws.{tab_none, tab_more, tab_all}
-use Rattle.keystream.specs.PrivateStream.{pairs_of}
 use Rattle.keystream.proofs.chacha.block_pairs.Given as goal
 
 abbrev pub invariant-loop-i : goal.invariant-loop-i

@@ -1,7 +1,6 @@
-use Rattle.std.proofs.Common.{◌≡◌, ℕ, ◌-◌, ◌≤◌, [], length, take, refl, arith, length-set, rules}
-use Rattle.lists.specs.Lists.{at, tab}
+use Rattle.std.proofs.Common.{[], refl, arith, length-set}
 use Rattle.lists.proofs.TabLaws.{tab_none, tab_more, tab_all}
-use Rattle.keystream.specs.ChaCha.{add32, block_words}
+use Rattle.keystream.specs.ChaCha.{block_words}
 use Rattle.keystream.proofs.chacha.block_words.Goals as goal
 
 pub loop-i-init : goal.loop-i-init

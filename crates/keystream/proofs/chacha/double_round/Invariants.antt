@@ -1,6 +1,5 @@
-use Rattle.std.proofs.Common.{◌≡◌, ◌-◌, ◌≤◌, arith, rules}
+use Rattle.std.proofs.Common.{◌≡◌, ◌≤◌}
 use Rattle.keystream.specs.ChaCha.{quarters_to}
-use Rattle.keystream.proofs.ChaChaLaws.{positions_low, quarter_more}
 use Rattle.keystream.proofs.chacha.double_round.Given as goal
 
 abbrev pub invariant-loop-i : goal.invariant-loop-i

@@ -1,7 +1,6 @@
-use Rattle.std.proofs.Common.{◌≡◌, ◌-◌, ◌*◌, ◌≤◌, length, refl, arith, rules}
+use Rattle.std.proofs.Common.{◌≡◌, ◌*◌, ◌≤◌, length}
 use Rattle.lists.specs.Lists.{put}
-use Rattle.lists.proofs.PutLaws.{put_none}
-use Rattle.keystream.proofs.FillLaws.{state_at, blocks_byte, state_none, state_more, block_more, blocks_done}
+use Rattle.keystream.proofs.FillLaws.{state_at, blocks_byte}
 use Rattle.keystream.proofs.chacha.fill.Given as goal
 
 abbrev pub invariant-loop-j : goal.invariant-loop-j

@@ -1,5 +1,4 @@
 use Rattle.keystream.specs.ChaCha.{quarter, set_four}
-use Rattle.std.proofs.Common.{rules}
 use Rattle.keystream.proofs.chacha.quarter_by.Goals as goal
 
 pub returns : goal.returns

@@ -1,6 +1,5 @@
 use Rattle.keystream.specs.ChaCha.{quarter_of}
 use Rattle.keystream.proofs.ChaChaLaws.{halves}
-use Rattle.std.proofs.Common.{rules}
 use Rattle.keystream.proofs.chacha.quarter_round.Goals as goal
 
 pub returns : goal.returns

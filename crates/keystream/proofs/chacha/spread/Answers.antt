@@ -1,7 +1,5 @@
-use Rattle.std.proofs.Common.{◌≡◌, ◌-◌, ◌*◌, ◌≤◌, length, refl, arith, rules}
-use Rattle.lists.specs.Lists.{at, put}
+use Rattle.std.proofs.Common.{◌≡◌, refl, arith, rules}
 use Rattle.lists.proofs.PutLaws.{put_none, put_block}
-use Rattle.keystream.specs.ChaCha.{serialised}
 use Rattle.keystream.proofs.ChaChaLaws.{serialised_at}
 use Rattle.keystream.proofs.chacha.spread.Goals as goal
 

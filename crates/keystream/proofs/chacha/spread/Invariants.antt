@@ -1,8 +1,6 @@
-use Rattle.std.proofs.Common.{◌≡◌, ◌-◌, ◌*◌, ◌≤◌, length, refl, arith, rules}
+use Rattle.std.proofs.Common.{◌≡◌, ◌*◌, ◌≤◌, length}
 use Rattle.lists.specs.Lists.{at, put}
-use Rattle.lists.proofs.PutLaws.{put_none, put_block}
 use Rattle.keystream.specs.ChaCha.{serialised}
-use Rattle.keystream.proofs.ChaChaLaws.{serialised_at}
 use Rattle.keystream.proofs.chacha.spread.Given as goal
 
 abbrev pub invariant-loop-k : goal.invariant-loop-k

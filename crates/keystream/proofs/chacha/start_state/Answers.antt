@@ -1,5 +1,4 @@
 use Rattle.keystream.specs.ChaCha.{start}
-use Rattle.std.proofs.Common.{rules}
 use Rattle.keystream.proofs.chacha.start_state.Goals as goal
 
 pub returns : goal.returns

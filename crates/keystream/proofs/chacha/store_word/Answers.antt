@@ -1,4 +1,4 @@
-use Rattle.std.proofs.Common.{add-zero, div-one, arith, length-set, rules}
+use Rattle.std.proofs.Common.{add-zero, div-one}
 use Rattle.lists.specs.Lists.{put}
 use Rattle.keystream.proofs.chacha.store_word.Goals as goal
 

@@ -1,4 +1,4 @@
-use Rattle.std.proofs.Common.{◌≡◌, ◌-◌, ◌≤◌, refl, arith, rules}
+use Rattle.std.proofs.Common.{◌≡◌, refl, arith, rules}
 use Rattle.keystream.specs.ChaCha.{quadruples, rounds}
 use Rattle.keystream.proofs.ChaChaLaws.{round_more}
 use Rattle.keystream.proofs.chacha.ten_rounds.Goals as goal

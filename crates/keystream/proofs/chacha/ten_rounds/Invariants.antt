@@ -1,6 +1,5 @@
-use Rattle.std.proofs.Common.{◌≡◌, ◌-◌, ◌≤◌, refl, arith, rules}
-use Rattle.keystream.specs.ChaCha.{quadruples, rounds}
-use Rattle.keystream.proofs.ChaChaLaws.{round_more}
+use Rattle.std.proofs.Common.{◌≡◌, ◌≤◌}
+use Rattle.keystream.specs.ChaCha.{rounds}
 use Rattle.keystream.proofs.chacha.ten_rounds.Given as goal
 
 abbrev pub invariant-loop : goal.invariant-loop

@@ -1,4 +1,4 @@
-use Rattle.std.proofs.Common.{arith, rules}
+use Rattle.std.proofs.Common.{arith}
 use Rattle.keystream.specs.ChaCha.{word_at}
 use Rattle.keystream.proofs.chacha.word_at.Goals as goal
 

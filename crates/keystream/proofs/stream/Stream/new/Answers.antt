@@ -1,6 +1,5 @@
 use Rattle.keystream.specs.PrivateStream.{begun, fresh}
 use Rattle.keystream.specs.ChaCha.{start}
-use Rattle.std.proofs.Common.{rules}
 use Rattle.keystream.proofs.stream.Stream.new.Goals as goal
 
 pub returns : goal.returns
