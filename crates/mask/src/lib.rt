@@ -6,7 +6,7 @@ mod rows;
 ghost use Rattle.std.specs.Prelude.{◌≡◌, ℕ, ◌+◌, ◌-◌, ◌*◌, ◌<◌, ◌≤◌, length};
 ghost use Rattle.lists.specs.Lists.{at, any_below};
 ghost use Rattle.answer.specs.Refusals.{differs};
-ghost use Rattle.sizes.specs.Lengths.{id_length, key_length, n_least, n_most, tags_most, auxiliary_length};
+ghost use Rattle.sizes.specs.Lengths.{vectors_most, id_length, key_length, n_least, n_most, tags_most, auxiliary_length};
 ghost use Rattle.vector.specs.Vectors.{all_zero};
 ghost use Rattle.tag.specs.KeyVector.{key_vector};
 ghost use Rattle.mask.specs.Masks.{mask_row, auxiliary};
@@ -83,13 +83,15 @@ fn setup_check(
 }
 
 // The key vectors of the tags, one after another, of N_MOST elements each.
-fn key_vectors(tag_key: &[u8], id: &[u8], tags: usize) -> [u8; sizes::VECTORS_MOST]
-    requires { (length tag_key.now ≡ key_length) × (length id.now ≡ id_length) × (tags ≤ tags_most) }
+fn key_vectors(tag_key: &[u8], id: &[u8], tags: usize, vectors: &mut [u8])
+    requires { (length tag_key.now ≡ key_length)
+        × (length id.now ≡ id_length)
+        × (tags ≤ tags_most)
+        × (length vectors.old ≡ vectors_most) }
     ensures { let tag_key = tag_key.now in
         let id = id.entry.now in
-        ((s e : ℕ) → s < tags → e < n_most → at result (s * n_most + e) ≡ key_vector tag_key id s e) }
+        ((s e : ℕ) → s < tags → e < n_most → at vectors.new (s * n_most + e) ≡ key_vector tag_key id s e) }
 {
-    let mut vectors = [0u8; sizes::VECTORS_MOST];
     for s in 0..tags {
         let mut vector = [0u8; sizes::N_MOST];
         tag::key_vector_into(
@@ -99,9 +101,8 @@ fn key_vectors(tag_key: &[u8], id: &[u8], tags: usize) -> [u8; sizes::VECTORS_MO
             &mut vector,
             sizes::N_MOST / sizes::STREAM_BLOCK_LENGTH,
         );
-        lists::store(&vector, 0, &mut vectors, s * sizes::N_MOST, sizes::N_MOST);
+        lists::store(&vector, 0, vectors, s * sizes::N_MOST, sizes::N_MOST);
     }
-    vectors
 }
 
 // The auxiliary elements of two keys that were accepted.
@@ -119,7 +120,8 @@ fn setup_into(tag_key: &[u8], mask_key: &[u8], id: &[u8], n: usize, tags: usize,
         out.new ≡ auxiliary n tags (key_vector tag_key id) (mask_row mask_key id) }
 {
     let tables = field::tables();
-    let vectors = key_vectors(tag_key, id, tags);
+    let mut vectors = [0u8; sizes::VECTORS_MOST];
+    key_vectors(tag_key, id, tags, &mut vectors);
     rows::auxiliary_into(
         &tables,
         tag::key_array(mask_key),

@@ -22,7 +22,7 @@ pub loop-s-preserved : goal.loop-s-preserved
 loop-s-preserved c =
     let l = c.loop-s in
     let made = vectors_more _ _ _ l.s _ (search rules) c.key_vector_into.ensures l.invariant.2 c.store.ensures in
-    (omega arith, l.invariant.1, made, omega (arith, c.vectors-in-loop-s-1.given))
+    (omega arith, l.invariant.1, made, search rules)
 
 pub returns : goal.returns
 returns c =
