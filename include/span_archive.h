@@ -1,4 +1,4 @@
-/* The span archive's operations for C and C++ (link target/staticlib/libspan.a, which `rt staticlib span` makes).
+/* The span archive's operations for C and C++ (link target/staticlib/libspan.a, which `tools/staticlib span` makes).
 
    A byte slice is a pointer, never NULL, and its length, exactly. Every buffer is the caller's, before and after the call; nothing is kept. Two
    buffers of one call must not overlap where one of them is written. Any bytes, lengths and numbers may be passed. A function returns SPAN_DONE,
