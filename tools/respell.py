@@ -1,9 +1,10 @@
 #!/usr/bin/env python3
-"""Brings the repository's own definitions, lemmas and local names to snake case, after the kit's port.py: tools/respell.py (at the top, once).
+"""Brings the repository's own definitions, lemmas and local names to snake case, after the kit's port.py: tools/respell.py (at the top, once); `tools/respell.py nested`
+turns the private definitions inside modules alone, which the first run of it had left.
 
 Types, modules and constructors keep their camel case; functions of src/, exported names, strings, inputs and outputs keep their names. Where two
 names of the repository would fall together, one gets the name that TOGETHER says. Names that proofs share with the kit's library are left."""
-import collections, glob, re, sys
+import collections, glob, os, re, sys
 
 # Names that would fall together with another one of the repository: a lemma beside the definition of its name gets `_lem`, as in the kit's library.
 TOGETHER = {
@@ -13,6 +14,11 @@ TOGETHER = {
     "response-length": "response_length_lem", "row-in": "row_in_lem", "scale-op": "scale_op_lem", "seed-length": "seed_length_lem",
     "swap-op": "swap_op_lem", "table-answers": "table_answers_lem", "unit-at": "unit_at_lem", "three-agree": "three_agree_lem",
     "zero-second": "zero_second_lem", "fresh-calls": "fresh_encodes", "auxiliaryLent": "lent_auxiliary", "bit-xor": "xor_of_bits",
+}
+# The same of private definitions inside a module.
+NESTED_TOGETHER = {
+    "out-of-rule": "out_of_rule_lem", "row-for": "row_for_lem", "named-block": "named_block_lem", "record-over": "record_over_lem",
+    "gather-answer": "gather_answer_lem",
 }
 TOKEN = re.compile(r"[^\s(){}\[\],.;:|«»`\"]+")
 SIGNED = re.compile(r"(\s*)((?:(?:abbrev|pub|unfoldable)\s+)*)([^\s:({λ]+)\s+:\s(.*)")
@@ -37,6 +43,18 @@ def own_names(paths):
     return found
 
 
+def nested_names(path):
+    """The private definitions inside the modules of one file: no other file sees them."""
+    if os.path.basename(path) in ("Proof.antt", "Answers.antt", "Invariants.antt"):
+        return set()
+    found = set()
+    for line in open(path, encoding="utf-8"):
+        m = SIGNED.match(line)
+        if m and m[1] and not m[2] and re.fullmatch(r"[a-z][\w']*(?:-[\w']+)+", m[3]):
+            found.add(m[3])
+    return found
+
+
 def kit_names(paths):
     found = set()
     for path in paths:
@@ -44,6 +62,23 @@ def kit_names(paths):
             for name in names.split(","):
                 found.update(name.split(" as ")[:1] and [name.split(" as ")[0].strip()])
     return found
+
+
+def nested_respelled(path):
+    """The private definitions inside the modules of a file of laws; says which would fall together with another name of the file."""
+    text = open(path, encoding="utf-8").read()
+    tokens = set(TOKEN.findall(text))
+    names = {name: NESTED_TOGETHER.get(name, name.replace("-", "_")) for name in nested_names(path) - kit_names([path])}
+    for name, new in sorted(names.items()):
+        if new in tokens:
+            print(f"{path}: {name} and {new} fall together")
+    lines = []
+    for line in text.split("\n"):
+        code, mark, comment = line.partition("--")
+        lines.append(TOKEN.sub(lambda m: names.get(m[0], m[0]), code) + mark + comment)
+    new_text = "\n".join(lines)
+    if new_text != text:
+        open(path, "w", encoding="utf-8").write(new_text)
 
 
 def is_camel(token):
@@ -87,13 +122,13 @@ def ghost_only(text, turn):
     return "".join(out) + text[at:]
 
 
-def main():
+def main(only_nested):
     proofs = sorted(glob.glob("crates/*/specs/**/*.antt", recursive=True) + glob.glob("crates/*/proofs/**/*.antt", recursive=True))
     sources = sorted(glob.glob("crates/*/src/*.rt"))
     own = own_names(proofs) - (kit_names(proofs + sources) - set(TOGETHER))
     own = {name for name in own if snake(name) != name}
     status = 0
-    for path in proofs + sources:
+    for path in [] if only_nested else proofs + sources:
         seen = collections.defaultdict(set)
         text = open(path, encoding="utf-8").read()
         if path.endswith(".rt"):
@@ -111,8 +146,10 @@ def main():
                 status = 1
         if new != text:
             open(path, "w", encoding="utf-8").write(new)
+    for path in proofs:
+        nested_respelled(path)
     return status
 
 
 if __name__ == "__main__":
-    sys.exit(main())
+    sys.exit(main(sys.argv[1:] == ["nested"]))

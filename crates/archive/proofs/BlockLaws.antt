@@ -18,9 +18,9 @@ module _ (z : Sizes) (file padding : List ℕ) where
   unfolding source
   source_file i e h = rw (lt-ltb e (z.n - 2) h)
 
-  source-tail : (i a : ℕ) → source z file padding i (z.n + a) ≡ bit (eqb a i)
+  source_tail : (i a : ℕ) → source z file padding i (z.n + a) ≡ bit (eqb a i)
   unfolding source
-  source-tail i a =
+  source_tail i a =
       let q : z.n + a - z.n ≡ a = omega arith in
       rw (le-ltb (z.n + a) (z.n - 2) (omega arith), le-ltb (z.n + a) z.n (omega arith), q)
 
@@ -28,5 +28,5 @@ module _ (z : Sizes) (file padding : List ℕ) where
   unfolding coded mixed
   coded_row r i h low =
       sum_one z.m i (λ j. times (r j) (source z file padding j (z.n + i))) h
-      (λ j hj ne. rw (source-tail j i, ne_eqb i j (λ q. ne (sym q))) (times_zero (r j)))
-      ∙ rw (source-tail i i, eq-eqb i i refl) (times_comm (r i) 1 ∙ one_times low)
+      (λ j hj ne. rw (source_tail j i, ne_eqb i j (λ q. ne (sym q))) (times_zero (r j)))
+      ∙ rw (source_tail i i, eq-eqb i i refl) (times_comm (r i) 1 ∙ one_times low)

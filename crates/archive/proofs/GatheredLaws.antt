@@ -50,8 +50,8 @@ module _ (s : List ℕ) {z : Sizes} (read : z ≡ sizes_of s) (good : bad_archiv
 
   -- the node's places are empty in the archive
   module _ (empty : (place : ℕ) → place < z.places → mark (place_number z node place) ≡ false) where
-    for-read : gather_for z (filled_in z a) node ≡ Done
-    for-read =
+    for_read : gather_for z (filled_in z a) node ≡ Done
+    for_read =
         passed _ _ (lt-leb z.nodes node there)
         ∙ passed _ _ (any_none z.places _ (λ place h. w.marks (place_number z node place) (number_mark z R node place there h) ∙ empty place h))
 
@@ -61,7 +61,7 @@ module _ (s : List ℕ) {z : Sizes} (read : z ≡ sizes_of s) (good : bad_archiv
         passed _ _
         (any_skip _ _ (parts_good s read good w unused) ∙ any_skip _ _ (parts_good s read good w' unused') ∙ any_last _
         ∙ same_front a b (λ i h. w.front i h ∙ sym (w'.front i h)))
-        ∙ ap (λ (x : Sizes). gather_for x (filled_in x a) node) (sym (parts_sizes s read good w unused)) ∙ for-read
+        ∙ ap (λ (x : Sizes). gather_for x (filled_in x a) node) (sym (parts_sizes s read good w unused)) ∙ for_read
 
     pub after_gather : gather_after a b node ≡ gathered z a b node
     unfolding gather_after

@@ -131,9 +131,9 @@ module _ (layout : ℕ) (z : Sizes) (id : List ℕ) (e : length id ≡ 8) (mark 
       ∙ pack_field ((4 wide layout) ∷ (11 wide z.n) ∷ (5 wide z.m) ∷ (4 wide z.places) ∷ (3 wide z.nodes) ∷ []) (4 wide tag_field layout z.tags) _
       (omega (arith, field_low layout z.tags, r.tags_high))
 
-  spare-back : field_at s 31 1 ≡ 0
+  spare_back : field_at s 31 1 ≡ 0
   unfolding widths
-  spare-back =
+  spare_back =
       sized 31 1 (omega arith)
       ∙ pack_field
       ((4 wide layout) ∷ (11 wide z.n) ∷ (5 wide z.m) ∷ (4 wide z.places) ∷ (3 wide z.nodes) ∷ (4 wide tag_field layout z.tags) ∷ [])
@@ -167,7 +167,7 @@ module _ (layout : ℕ) (z : Sizes) (id : List ℕ) (e : length id ≡ 8) (mark 
         l,
         not_sizes_outside z r,
         differs_same (field_back r),
-        spare-back,
+        spare_back,
         any_none 48 (λ k. pick (leb (place_count z) k) (mark_at s k) false) (unused h),
         length_archive,
         eq-eqb (archive_length z) (archive_length z) refl,

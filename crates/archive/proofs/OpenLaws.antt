@@ -55,30 +55,30 @@ module _ (layout : ℕ) (z : Sizes) (id : List ℕ) (e : length id ≡ 8) where
       put_below 8 4 _ sized i h ∙ packed_at (archive_length z) (bits_of (size_fields layout z)) i (omega arith) ∙ sym (packed_at 4 (bits_of (size_fields layout z)) i h)
       ∙ sym (get_or-append (pack (size_fields layout z)) id 0 i (rw (sizes_length layout z) h))
 
-  id-byte : (i : ℕ) → i < 8 → at made (4 + i) ≡ at (pack (size_fields layout z) ++ id) (4 + i)
-  id-byte i h =
+  id_byte : (i : ℕ) → i < 8 → at made (4 + i) ≡ at (pack (size_fields layout z) ++ id) (4 + i)
+  id_byte i h =
       let q : 0 + i ≡ i = omega arith in
       put_at 8 4 (λ i. at id (0 + i)) sized i h (rw packed_length (omega arith)) ∙ ap (at id) q ∙ sym (skip (pack (size_fields layout z)) id 4 i (sizes_length layout z))
 
-  zero-byte : (i : ℕ) → 12 ≤ i → i < archive_length z → at made i ≡ 0
+  zero_byte : (i : ℕ) → 12 ≤ i → i < archive_length z → at made i ≡ 0
   unfolding widths
-  zero-byte i a b = put_above 8 4 _ sized i a ∙ packed_past (archive_length z) (size_fields layout z) i b (omega arith)
+  zero_byte i a b = put_above 8 4 _ sized i a ∙ packed_past (archive_length z) (size_fields layout z) i b (omega arith)
 
-  made-front : (i : ℕ) → i < 12 → at made i ≡ at new i
-  made-front i h =
-      ⊎_elim (first_byte i) (λ (l : 4 ≤ i). let q : i ≡ 4 + (i - 4) = omega arith in rw q (id-byte (i - 4) (omega arith))) (order i 4)
+  made_front : (i : ℕ) → i < 12 → at made i ≡ at new i
+  made_front i h =
+      ⊎_elim (first_byte i) (λ (l : 4 ≤ i). let q : i ≡ 4 + (i - 4) = omega arith in rw q (id_byte (i - 4) (omega arith))) (order i 4)
       ∙ sym (archive_front layout z id e (λ k. false) (λ k p. 0) i h)
 
-  made-marks : (j : ℕ) → j < 6 → at made (12 + j) ≡ at new (12 + j)
-  made-marks j h =
-      zero-byte (12 + j) (omega arith) (omega arith)
+  made_marks : (j : ℕ) → j < 6 → at made (12 + j) ≡ at new (12 + j)
+  made_marks j h =
+      zero_byte (12 + j) (omega arith) (omega arith)
       ∙ sym (archive_marks layout z id e (λ k. false) (λ k p. 0) j h ∙ packed_zero 6 (λ k. false) j h (λ i l. refl))
 
-  made-is : made ≡ opened layout z id
+  made_is : made ≡ opened layout z id
   unfolding opened
-  made-is =
-      same_bytes z made new (length_put 8 4 _ sized ∙ packed_length (archive_length z) (bits_of (size_fields layout z))) (length_archive layout z id e _ _) made-front made-marks
-      (λ k p h hp. zero-byte (record_start z k + p) (omega arith) (omega (arith, record_fits z k h)) ∙ sym (archive_byte layout z id e (λ k. false) (λ k p. 0) k p h hp))
+  made_is =
+      same_bytes z made new (length_put 8 4 _ sized ∙ packed_length (archive_length z) (bits_of (size_fields layout z))) (length_archive layout z id e _ _) made_front made_marks
+      (λ k p h hp. zero_byte (record_start z k + p) (omega arith) (omega (arith, record_fits z k h)) ∙ sym (archive_byte layout z id e (λ k. false) (λ k p. 0) k p h hp))
 
 -- six fields on cleared bytes: the zero bit behind them is there
 pub sizes_written : (layout : ℕ) (z : Sizes) (len : ℕ) {said : ℕ} {a b c d f g s : List ℕ} → said ≡ tag_field layout z.tags → a ≡ tab len (λ i. 0)
@@ -93,4 +93,4 @@ sizes_written layout z len says clear one two three four five six =
 
 pub new_written : (layout : ℕ) (z : Sizes) (id : List ℕ) {n : ℕ} {s r : List ℕ} → length id ≡ 8 → n ≡ archive_length z
     → s ≡ packed n (bits_of (size_fields layout z)) → r ≡ put 8 4 (λ i. at id (0 + i)) s → r ≡ opened layout z id
-new_written layout z id l e sizes made = made ∙ rw (sizes, e) (made-is layout z id l)
+new_written layout z id l e sizes made = made ∙ rw (sizes, e) (made_is layout z id l)

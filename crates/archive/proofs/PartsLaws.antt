@@ -34,8 +34,8 @@ pub parts_own : (z : Sizes) (s : List ℕ) → length s ≡ archive_length z →
 parts_own z s long = record { size = long; front = λ i h. refl; marks = λ k h. refl; bytes = λ k p h hp. refl }
 
 module _ (layout : ℕ) (z : Sizes) (id : List ℕ) (e : length id ≡ 8) (mark mark' : ℕ → Bool) (rec rec' : ℕ → ℕ → ℕ) where
-  parts-archive : Parts z (archive_of layout z id mark rec) mark' rec' (archive_of layout z id mark' rec')
-  parts-archive =
+  parts_archive : Parts z (archive_of layout z id mark rec) mark' rec' (archive_of layout z id mark' rec')
+  parts_archive =
       record {
         size = length_archive layout z id e mark' rec';
         front = λ i h. archive_front layout z id e mark' rec' i h ∙ sym (archive_front layout z id e mark rec i h);
@@ -65,8 +65,8 @@ module _ {z : Sizes} {s : List ℕ} {mark : ℕ → Bool} {rec : ℕ → ℕ →
 
   -- ---- the same parts, the same bytes
 
-  same-marks : {t' : List ℕ} → Parts z s mark rec t' → (j : ℕ) → j < 6 → at t (12 + j) < 256 → at t' (12 + j) < 256 → at t (12 + j) ≡ at t' (12 + j)
-  same-marks {t'} w' j h low low' =
+  same_marks : {t' : List ℕ} → Parts z s mark rec t' → (j : ℕ) → j < 6 → at t (12 + j) < 256 → at t' (12 + j) < 256 → at t (12 + j) ≡ at t' (12 + j)
+  same_marks {t'} w' j h low low' =
       sym (marks_byte t j h low)
       ∙ ap (λ (l : List ℕ). at l j) (packed_same 6 (mark_at t) (mark_at t') (λ k b. w.marks k b ∙ sym (w'.marks k b))) ∙ marks_byte t' j h low'
 
@@ -84,7 +84,7 @@ pub parts_same : {z : Sizes} {s : List ℕ} {mark : ℕ → Bool} {rec : ℕ →
     → Tidy t → Tidy t' → t ≡ t'
 unfolding byte_in
 parts_same {z} {t = t} {t' = t'} w w' low low' =
-    same_bytes z t t' w.size w'.size (λ i h. w.front i h ∙ sym (w'.front i h)) (λ j h. same-marks w w' j h (low j h) (low' j h))
+    same_bytes z t t' w.size w'.size (λ i h. w.front i h ∙ sym (w'.front i h)) (λ j h. same_marks w w' j h (low j h) (low' j h))
     (λ k p h hp. w.bytes k p h hp ∙ sym (w'.bytes k p h hp))
 
 -- a store into a whole archive makes a whole archive
@@ -94,8 +94,8 @@ pub stored_is : (layout : ℕ) (z : Sizes) (id : List ℕ) → length id ≡ 8 �
 stored_is layout z id e mark old new k count rec fits =
     let long = length_archive layout z id e mark old in
     let made : List ℕ = archive_of layout z id (over k count new mark) (over k count rec old) in
-    parts_same (parts_stored (parts-archive layout z id e mark mark old old) new k count rec fits)
-    (parts-archive layout z id e mark (over k count new mark) old (over k count rec old))
+    parts_same (parts_stored (parts_archive layout z id e mark mark old old) new k count rec fits)
+    (parts_archive layout z id e mark (over k count new mark) old (over k count rec old))
     (stored_tidy z new k count rec _ (omega (arith, long))) (packed_tidy made _ (archive_marks layout z id e _ _))
 
 -- ---- an archive with the front of one that is not bad
@@ -135,9 +135,9 @@ module _ (s : List ℕ) {z : Sizes} (read : z ≡ sizes_of s) (good : bad_archiv
             w.marks k h ∙ unused k l h ∙ sym (good_unused k l h)
         go false q = refl
 
-    good-for : bad_for z t ≡ false
+    good_for : bad_for z t ≡ false
     unfolding bad_for layout_of
-    good-for =
+    good_for =
         let field = front_field s t w.front in
         let long : length s ≡ archive_length z = rw read (good_length s good) in
         rw (
@@ -153,4 +153,4 @@ module _ (s : List ℕ) {z : Sizes} (read : z ≡ sizes_of s) (good : bad_archiv
     parts_sizes = read ∙ sym (front_sizes s t w.front)
 
     pub parts_good : bad_archive t ≡ false
-    parts_good = rw (← parts_sizes) good-for
+    parts_good = rw (← parts_sizes) good_for

@@ -48,28 +48,28 @@ all_zero_lem m row low d (suc n) bytes unused vanish t h =
 -- ---- two plans
 
 module _ (z : Sizes) (count : ℕ) (row wanted : ℕ → ℕ → ℕ) where
-  theta-low : (thetas : List ℕ) → Planned z count row wanted thetas → (t k : ℕ) → t < count → k < z.places → theta_in z thetas t k < 256
-  theta-low thetas p t k l h = p.bytes (t * z.places + k) (omega (arith, p.size, mul-le-mul_right z.places l))
+  theta_low : (thetas : List ℕ) → Planned z count row wanted thetas → (t k : ℕ) → t < count → k < z.places → theta_in z thetas t k < 256
+  theta_low thetas p t k l h = p.bytes (t * z.places + k) (omega (arith, p.size, mul-le-mul_right z.places l))
 
   module _ (thetas thetas' : List ℕ) (low : (t i : ℕ) → row t i < 256) (p : Planned z count row wanted thetas) (p' : Planned z count row wanted thetas') where
     -- what they differ by combines the rows to zero
-    gap-vanishes : (k i : ℕ) → k < z.places → i < z.m → mixed count (λ t. plus (theta_in z thetas t k) (theta_in z thetas' t k)) row i ≡ 0
+    gap_vanishes : (k i : ℕ) → k < z.places → i < z.m → mixed count (λ t. plus (theta_in z thetas t k) (theta_in z thetas' t k)) row i ≡ 0
     unfolding mixed
-    gap-vanishes k i h l =
+    gap_vanishes k i h l =
         sum_same count _ _ (λ t b. times_xor_left (theta_in z thetas t k) (theta_in z thetas' t k) (row t i)) ∙ sum_plus count _ _
         ∙ ap₂ plus (p.gives k i h l) (p'.gives k i h l) ∙ xor_self (wanted k i)
 
-    theta-same : (t k : ℕ) → t < count → k < z.places → theta_in z thetas t k ≡ theta_in z thetas' t k
-    theta-same t k l h =
+    theta_same : (t k : ℕ) → t < count → k < z.places → theta_in z thetas t k ≡ theta_in z thetas' t k
+    theta_same t k l h =
         xor_equal
         (all_zero_lem z.m row low (λ j. plus (theta_in z thetas j k) (theta_in z thetas' j k)) count
-        (λ j b. xor_lt 8 _ _ (theta-low thetas p j k b h) (theta-low thetas' p' j k b h))
+        (λ j b. xor_lt 8 _ _ (theta_low thetas p j k b h) (theta_low thetas' p' j k b h))
         (λ j b s. ap₂ plus (p.unused j b s k h) (p'.unused j b s k h))
-        (λ i b. gap-vanishes k i h b) t l)
+        (λ i b. gap_vanishes k i h b) t l)
 
     pub planned_only : thetas ≡ thetas'
     planned_only =
-        is_flat count z.places (theta_in z thetas') thetas p.size theta-same
+        is_flat count z.places (theta_in z thetas') thetas p.size theta_same
         ∙ sym (is_flat count z.places (theta_in z thetas') thetas' p'.size (λ t k l h. refl))
 
 -- ---- sizes of the same m and places, and rows that agree
@@ -88,8 +88,8 @@ module _ (z z' : Sizes) (count : ℕ) (row row' wanted wanted' : ℕ → ℕ →
             u.not_orthogonal (product_same z.m (wanted u.place) (wanted' u.place) u.v (λ i h. wants u.place i u.there h) ∙ e));
       }
 
-  spanned-alike : (t : ℕ) → t < count → Spanned t z.m row' (row' t) → Spanned t z.m row (row t)
-  spanned-alike t l s =
+  spanned_alike : (t : ℕ) → t < count → Spanned t z.m row' (row' t) → Spanned t z.m row (row t)
+  spanned_alike t l s =
       spanned_same t z.m row (λ i h. rows t i l h) (spanned_rows t z.m row' row (λ j i b h. sym (rows j i (omega arith) h)) s)
 
   pub planned_alike : (thetas : List ℕ) → Planned z count row wanted thetas → Planned z' count row' wanted' thetas
@@ -99,5 +99,5 @@ module _ (z z' : Sizes) (count : ℕ) (row row' wanted wanted' : ℕ → ℕ →
         bytes = p.bytes;
         gives = rw (← same_m, ← same_places) (λ k i h l.
             sym (mixed_vectors count _ row row' i (λ t b. rows t i b l)) ∙ p.gives k i h l ∙ wants k i h l);
-        unused = rw (← same_m, ← same_places) (λ t l s k h. p.unused t l (spanned-alike t l s) k h);
+        unused = rw (← same_m, ← same_places) (λ t l s k h. p.unused t l (spanned_alike t l s) k h);
       }

@@ -51,25 +51,25 @@ module _ (z : Sizes) (s out file : List ℕ) (w : Solved z s out) (low : 3 ≤ z
   abbrev gap : ℕ → ℕ → ℕ
   gap e i = plus (at out (i * (z.n - 2) + e)) (at file (i * (z.n - 2) + e))
 
-  gap-taken : (e : ℕ) → e < z.n - 2 → (k : ℕ) → k < place_count z → w.taken k ≡ true → product z.m (row_in z s k) (gap e) ≡ 0
-  gap-taken e he k h t = product_right z.m _ _ _ ∙ ap₂ plus (w.solves k e h t he) (fits k e h t he) ∙ xor_self (byte_in z s k e)
+  gap_taken : (e : ℕ) → e < z.n - 2 → (k : ℕ) → k < place_count z → w.taken k ≡ true → product z.m (row_in z s k) (gap e) ≡ 0
+  gap_taken e he k h t = product_right z.m _ _ _ ∙ ap₂ plus (w.solves k e h t he) (fits k e h t he) ∙ xor_self (byte_in z s k e)
 
-  gap-filled : (e : ℕ) → e < z.n - 2 → (k : ℕ) → k < place_count z → mark_at s k ≡ true → product z.m (row_in z s k) (gap e) ≡ 0
-  gap-filled e he = candidate_zero z.m (row_in z s) (mark_at s) (place_count z) w.taken w.takes (gap e) (gap-taken e he)
+  gap_filled : (e : ℕ) → e < z.n - 2 → (k : ℕ) → k < place_count z → mark_at s k ≡ true → product z.m (row_in z s k) (gap e) ≡ 0
+  gap_filled e he = candidate_zero z.m (row_in z s) (mark_at s) (place_count z) w.taken w.takes (gap e) (gap_taken e he)
 
-  gap-blind : (e : ℕ) → e < z.n - 2 → (i : ℕ) → i < z.m → gap e i ≢ 0 → Blind z (mark_at s) (row_in z s)
-  gap-blind e he i h q =
+  gap_blind : (e : ℕ) → e < z.n - 2 → (i : ℕ) → i < z.m → gap e i ≢ 0 → Blind z (mark_at s) (row_in z s)
+  gap_blind e he i h q =
       record {
         v = gap e;
         bytes = λ j l. xor_lt 8 _ _ (column_low z out w.size w.bytes e j he l) (column_low z file size bytes e j he l);
         one = i;
         one_there = h;
         one_not = q;
-        orthogonal = gap-filled e he;
+        orthogonal = gap_filled e he;
       }
 
-  gap-zero : (e : ℕ) → e < z.n - 2 → (i : ℕ) → i < z.m → gap e i ≡ 0
-  gap-zero e he i h = elim (ℕ_discrete (gap e i) 0) [ yes q ↦ q | no q ↦ absurd (readable (gap-blind e he i h q)) ]
+  gap_zero : (e : ℕ) → e < z.n - 2 → (i : ℕ) → i < z.m → gap e i ≡ 0
+  gap_zero e he i h = elim (ℕ_discrete (gap e i) 0) [ yes q ↦ q | no q ↦ absurd (readable (gap_blind e he i h q)) ]
 
   pub solution_only : out ≡ file
   solution_only =
@@ -78,4 +78,4 @@ module _ (z : Sizes) (s out file : List ℕ) (w : Solved z s out) (low : 3 ≤ z
       let pos : 0 < d = omega arith in
       let hi : i < z.m * d = omega (arith, w.size) in
       subst (λ (x : ℕ). at out x ≡ at file x) (div-add-mod' i d)
-      (xor_equal (gap-zero (i % d) (mod-lt i pos) (i / d) ((div-lt_iff_lt-mul {k = d} pos).1 hi))))
+      (xor_equal (gap_zero (i % d) (mod-lt i pos) (i / d) ((div-lt_iff_lt-mul {k = d} pos).1 hi))))

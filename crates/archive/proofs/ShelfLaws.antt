@@ -30,8 +30,8 @@ module _ (z : Sizes) (R : Ranged z) where
   code_of : (node place : ℕ) → place < z.places → place_code z (place_number z node place) ≡ 8 * node + place
   code_of node place h = rw (digits_div node h, digits_mod node h)
 
-  code-rises : (k l : ℕ) → k < l → place_code z k < place_code z l
-  code-rises k l h =
+  code_rises : (k l : ℕ) → k < l → place_code z k < place_code z l
+  code_rises k l h =
       let M : ℕ = z.places in
       let a = div-add-mod' k M in
       let b = div-add-mod' l M in
@@ -47,10 +47,10 @@ module _ (z : Sizes) (R : Ranged z) where
       (order (l / M) (k / M)))
       (order (k / M) (l / M))
 
-  codes-differ : (k i : ℕ) → i ≢ k → place_code z i ≢ place_code z k
-  codes-differ k i other e =
-      ⊎_elim (λ (l : i < k). omega (arith, code-rises i k l))
-      (λ (l : k ≤ i). let l' : k < i = omega (arith, other) in omega (arith, code-rises k i l'))
+  codes_differ : (k i : ℕ) → i ≢ k → place_code z i ≢ place_code z k
+  codes_differ k i other e =
+      ⊎_elim (λ (l : i < k). omega (arith, code_rises i k l))
+      (λ (l : k ≤ i). let l' : k < i = omega (arith, other) in omega (arith, code_rises k i l'))
       (order i k)
 
   -- ---- the list
@@ -69,14 +69,14 @@ module _ (z : Sizes) (R : Ranged z) where
     unfolding shelf
     entry j h = padded_front (place_count z) codes j (omega (arith, size))
 
-    each-once : (node place : ℕ) → node < z.nodes → place < z.places
+    each_once : (node place : ℕ) → node < z.nodes → place < z.places
         → how_many count (λ j. eqb (at (shelf z filled) j) (8 * node + place)) ≡ bit (filled (place_number z node place))
-    each-once node place h hp =
+    each_once node place h hp =
         let k : ℕ = place_number z node place in
         let c : ℕ = 8 * node + place in
         how_many_same count _ _ (λ j l. ap (λ (x : ℕ). eqb x c) (entry j l))
         ∙ ap (λ (x : ℕ). how_many count (λ j. eqb (at codes j) x)) (sym (code_of node place hp))
-        ∙ filtered_once (place_count z) filled (place_code z) k (number_low z R node place h hp) (λ i l. codes-differ k i)
+        ∙ filtered_once (place_count z) filled (place_code z) k (number_low z R node place h hp) (λ i l. codes_differ k i)
 
     in_range : (k : ℕ) → k < place_count z → (place_code z k / 8 < z.nodes) × (place_code z k % 8 < z.places)
     in_range k h =
@@ -90,11 +90,11 @@ module _ (z : Sizes) (R : Ranged z) where
         record {
           size = length_padded (place_count z) codes (omega (arith, size, how_many_most (place_count z) filled));
           number = how_many_same (place_count z) filled _ (λ k h. ap filled (sym (div-add-mod' k z.places)));
-          once = each-once;
+          once = each_once;
           only = λ j h. rw (entry j h) (filtered_all (λ x. (x / 8 < z.nodes) × (x % 8 < z.places)) (place_count z) filled (place_code z) (λ k l p. in_range k l) j h);
           rest = λ j h l. padded_behind (place_count z) codes j (omega (arith, size)) l;
         }
 
     pub shelf_rising : Rising count (shelf z filled)
     shelf_rising i j h l =
-        rw (entry i (omega arith), entry j l) (filtered_rising ◌<◌ (place_count z) filled (place_code z) (λ k m less low a b. code-rises k m less) i j h l)
+        rw (entry i (omega arith), entry j l) (filtered_rising ◌<◌ (place_count z) filled (place_code z) (λ k m less low a b. code_rises k m less) i j h l)

@@ -50,19 +50,19 @@ module _ (z : Sizes) (low : 3 ≤ z.n) (row response vector : List ℕ) (s : ℕ
   all = appended n z.tags response (at row)
 
   -- the elements that are masked, those in clear, and the row
-  masked-part : (e : ℕ) → e < n - 2 → all e ≡ at response (1 + e)
+  masked_part : (e : ℕ) → e < n - 2 → all e ≡ at response (1 + e)
   unfolding appended data_in
-  masked-part e h = rw (lt-ltb e n (omega arith), lt-ltb e (n - 2) h)
+  masked_part e h = rw (lt-ltb e n (omega arith), lt-ltb e (n - 2) h)
 
-  clear-part : (e : ℕ) → e < 2 → all (n - 2 + e) ≡ at response (sums_end + 10 + e)
+  clear_part : (e : ℕ) → e < 2 → all (n - 2 + e) ≡ at response (sums_end + 10 + e)
   unfolding appended data_in
-  clear-part e h =
+  clear_part e h =
       let q : n + 10 + z.tags + (n - 2 + e - (n - 2)) ≡ sums_end + 10 + e = omega arith in
       rw (lt-ltb (n - 2 + e) n (omega arith), le-ltb (n - 2 + e) (n - 2) (omega arith), q)
 
-  row-part : (e : ℕ) → all (n - 2 + 2 + e) ≡ at row e
+  row_part : (e : ℕ) → all (n - 2 + 2 + e) ≡ at row e
   unfolding appended
-  row-part e =
+  row_part e =
       let q : n - 2 + 2 + e - n ≡ e = omega arith in
       rw (le-ltb (n - 2 + 2 + e) n (omega arith), q)
 
@@ -76,12 +76,12 @@ module _ (z : Sizes) (low : 3 ≤ z.n) (row response vector : List ℕ) (s : ℕ
   parts {a} {b} {d} p q r =
       let whole : z.n + z.m ≡ n - 2 + 2 + z.m = omega arith in
       let first : a ≡ product (n - 2) all (at vector) =
-      p ∙ product_same (n - 2) _ all _ (λ e h. part_at 1 (n - 1) response e (omega arith) ∙ sym (masked-part e h)) in
+      p ∙ product_same (n - 2) _ all _ (λ e h. part_at 1 (n - 1) response e (omega arith) ∙ sym (masked_part e h)) in
       let second : b ≡ product 2 (λ e. all (n - 2 + e)) (λ e. at vector (n - 2 + e)) =
-      q ∙ product_same 2 _ _ _ (λ e h. part_at (sums_end + 10) (sums_end + 12) response e (omega arith) ∙ sym (clear-part e h))
+      q ∙ product_same 2 _ _ _ (λ e h. part_at (sums_end + 10) (sums_end + 12) response e (omega arith) ∙ sym (clear_part e h))
       ∙ product_keys 2 _ _ _ (λ e h. part_at (n - 2) n vector e (omega arith)) in
       let third : d ≡ product z.m (λ e. all (n - 2 + 2 + e)) (λ e. at vector (n - 2 + 2 + e)) =
-      r ∙ product_same z.m _ _ _ (λ e h. sym (row-part e))
+      r ∙ product_same z.m _ _ _ (λ e h. sym (row_part e))
       ∙ product_keys z.m _ _ _ (λ e h.
       let w : n + e ≡ n - 2 + 2 + e = omega arith in
       part_at n (n + z.m) vector e (omega arith) ∙ ap (at vector) w) in

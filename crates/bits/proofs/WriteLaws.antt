@@ -56,54 +56,54 @@ module _ (s : List ℕ) (k v o p : ℕ) (bytes : (i : ℕ) → at s i < 256) (fi
   abbrev byte : ℕ → ℕ
   byte j = number (λ i. new (8 * j + i)) 8
 
-  new-here : bit (new k) ≡ v
-  new-here =
+  new_here : bit (new k) ≡ v
+  new_here =
       let q : k ≡ k + 0 = omega arith in
       ap (λ (m : ℕ). bit (new m)) q ∙ ap bit (over_in k 1 (bit_of 1 v) (bit_at s) 0 (omega arith)) ∙ flag_bit v flag
 
-  new-other : (m : ℕ) → (m ≡ k → ⊥) → new m ≡ bit_at s m
-  new-other m n =
+  new_other : (m : ℕ) → (m ≡ k → ⊥) → new m ≡ bit_at s m
+  new_other m n =
       ⊎_elim (over_below k 1 (bit_of 1 v) (bit_at s) m) (λ (l : k ≤ m). over_above k 1 (bit_of 1 v) (bit_at s) m (omega arith))
       (order m k)
 
-  byte-other : (j : ℕ) → (j ≡ k / 8 → ⊥) → at s j ≡ byte j
-  byte-other j n =
+  byte_other : (j : ℕ) → (j ≡ k / 8 → ⊥) → at s j ≡ byte j
+  byte_other j n =
       sym (byte_bits s j (bytes j))
-      ∙ number_same (λ i. bit_at s (8 * j + i)) (λ i. new (8 * j + i)) 8 (λ i l. sym (new-other (8 * j + i) (λ e. n (omega arith))))
+      ∙ number_same (λ i. bit_at s (8 * j + i)) (λ i. new (8 * j + i)) 8 (λ i l. sym (new_other (8 * j + i) (λ e. n (omega arith))))
 
-  byte-here : byte (k / 8) + o * p ≡ at s (k / 8) + v * p
-  byte-here =
+  byte_here : byte (k / 8) + o * p ≡ at s (k / 8) + v * p
+  byte_here =
       let q : 8 * (k / 8) + k % 8 ≡ k = omega arith in
       let both = number_other (λ i. new (8 * (k / 8) + i)) (λ i. bit_at s (8 * (k / 8) + i)) (k % 8) (7 - k % 8) 8 (omega arith)
-      (λ j l n. new-other (8 * (k / 8) + j) (λ e. n (omega arith))) in
-      rw (old, weight) (rw (q, new-here, byte_bits s (k / 8) (bytes (k / 8))) at both)
+      (λ j l n. new_other (8 * (k / 8) + j) (λ e. n (omega arith))) in
+      rw (old, weight) (rw (q, new_here, byte_bits s (k / 8) (bytes (k / 8))) at both)
 
-  bit-cleared : o * p ≤ at s (k / 8)
+  bit_cleared : o * p ≤ at s (k / 8)
   unfolding bit_at
-  bit-cleared =
+  bit_cleared =
       let e : ℕ = 7 - k % 8 in
       let b : ℕ = at s (k / 8) in
       let less : b / 2 ^ e % 2 ≤ b / 2 ^ e = omega arith in
       rw (old, weight, bit_odd) (omega (arith, split b e, mul-le-mul_right (2 ^ e) less))
 
-  byte-new : at s (k / 8) - o * p + v * p ≡ byte (k / 8)
-  byte-new = omega (arith, byte-here, bit-cleared)
+  byte_new : at s (k / 8) - o * p + v * p ≡ byte (k / 8)
+  byte_new = omega (arith, byte_here, bit_cleared)
 
   byte_low : at s (k / 8) - o * p + v * p < 256
-  byte_low = omega (arith, byte-new, number_low (λ i. new (8 * (k / 8) + i)) 8)
+  byte_low = omega (arith, byte_new, number_low (λ i. new (8 * (k / 8) + i)) 8)
 
-  bit-set : set s (k / 8) (at s (k / 8) - o * p + v * p) ≡ with_field s k 1 v
+  bit_set : set s (k / 8) (at s (k / 8) - o * p + v * p) ≡ with_field s k 1 v
   unfolding with_field packed
-  bit-set =
+  bit_set =
       is_tab (length s) byte _ (length-set s (k / 8) _) (λ j h.
       elim (ℕ_discrete j (k / 8)) [
-        | yes e ↦ rw e (get_or-set_same s (k / 8) _ 0 (omega arith) ∙ byte-new)
-        | no n ↦ get_or-set_other s (k / 8) j _ 0 n ∙ byte-other j n
+        | yes e ↦ rw e (get_or-set_same s (k / 8) _ 0 (omega arith) ∙ byte_new)
+        | no n ↦ get_or-set_other s (k / 8) j _ 0 n ∙ byte_other j n
       ])
 
   pub bit_step : (j b : ℕ) → j ≡ k / 8 → b ≡ at s j
       → (o * p ≤ b) × (b - o * p + v * p < 256) × (set s j (b - o * p + v * p) ≡ with_field s k 1 v)
-  bit_step j b place here = rw (here, place) (bit-cleared, byte_low, bit-set)
+  bit_step j b place here = rw (here, place) (bit_cleared, byte_low, bit_set)
 
 -- a field, bit after bit: none, one more
 module _ (s : List ℕ) (from w v : ℕ) where

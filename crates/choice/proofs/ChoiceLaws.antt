@@ -116,8 +116,8 @@ module _ (m : ℕ) (row : Matrix) (candidate : ℕ → Bool) where
         old : (j : ℕ) → j < k → now_taken j ≡ w.taken j
         old = over_below k 1 (λ i. true) w.taken
 
-        old-count : (j : ℕ) → j ≤ k → how_many j now_taken ≡ how_many j w.taken
-        old-count j h = how_many_same j now_taken w.taken (λ i l. old i (omega arith))
+        old_count : (j : ℕ) → j ≤ k → how_many j now_taken ≡ how_many j w.taken
+        old_count j h = how_many_same j now_taken w.taken (λ i l. old i (omega arith))
 
         -- a combination before k is the same
         as_before : (j : ℕ) → j ≤ k → Combined m row now_taken j → Combined m row w.taken j
@@ -127,15 +127,15 @@ module _ (m : ℕ) (row : Matrix) (candidate : ℕ → Bool) where
         apart s =
             apart_if_not k m _ _ P.basis v out C p there (at_p.here there) (spanned_same k m (only w.taken row) same s)
 
-        still-listed : (j : ℕ) → j < k → w.taken j ≡ true → at d.numbers (how_many j w.taken) ≡ j
-        still-listed j h e = before (how_many j w.taken) (omega (arith, how_many_less j k w.taken h e, w.number)) ∙ w.listed j h e
+        still_listed : (j : ℕ) → j < k → w.taken j ≡ true → at d.numbers (how_many j w.taken) ≡ j
+        still_listed j h e = before (how_many j w.taken) (omega (arith, how_many_less j k w.taken h e, w.number)) ∙ w.listed j h e
 
         -- the rows listed are independent still, with k behind them
         more : Independent (c.count + 1) m (listed_rows row d)
         more =
             independent_more c.count m (listed_rows row d) (λ t i. low (at d.numbers t) i)
             (independent_same c.count m (listed_rows row c) (listed_rows row d) (λ t i h l. ap (λ (j : ℕ). row j i) (sym (before t h))) w.independent)
-            (λ s. apart (spanned_listed w.taken (at d.numbers) row m k still-listed
+            (λ s. apart (spanned_listed w.taken (at d.numbers) row m k still_listed
             (subst (λ (n : ℕ). Spanned n m (listed_rows row d) (row k)) w.number
             (spanned_same c.count m (listed_rows row d) (λ i l. ap (λ (j : ℕ). row j i) (sym here)) s))))
 
@@ -156,9 +156,9 @@ module _ (m : ℕ) (row : Matrix) (candidate : ℕ → Bool) where
                               (λ f e. absurd (true≢false (sym new ∙ e)));
                         };
                     later = λ j h. over_above k 1 (λ i. true) w.taken j h ∙ w.later j (omega arith);
-                    number = count ∙ rw (how_many_more k now_taken, new, old-count k (omega arith), ← w.number);
-                    listed = below_more _ k (λ j h e. rw (old-count j (omega arith)) (still-listed j h (sym (old j h) ∙ e)))
-                        (λ e. rw (old-count k (omega arith), ← w.number) here);
+                    number = count ∙ rw (how_many_more k now_taken, new, old_count k (omega arith), ← w.number);
+                    listed = below_more _ k (λ j h e. rw (old_count j (omega arith)) (still_listed j h (sym (old j h) ∙ e)))
+                        (λ e. rw (old_count k (omega arith), ← w.number) here);
                     below = λ t h.
                         below_more (λ t. at d.numbers t < k + 1) c.count (λ t h. omega (arith, before t h, w.below t h)) (omega (arith, here)) t (omega arith);
                     fits = omega arith;

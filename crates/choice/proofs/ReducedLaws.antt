@@ -77,15 +77,15 @@ module _ (m : ℕ) (e : Matrix) (E : Echelon m e) (y : ℕ → ℕ) (clear : (p 
       (λ (none : (i : ℕ) → i < m → e p i ≡ 0). ap (times (y p)) (none i l) ∙ times_zero (y p))
       (E.lead p h)
 
-  parts-zero : (n : ℕ) → n ≤ m → (i : ℕ) → i < m → mixed n y e i ≡ 0
+  parts_zero : (n : ℕ) → n ≤ m → (i : ℕ) → i < m → mixed n y e i ≡ 0
   unfolding mixed
-  parts-zero zero h i l = sym (sum_none _)
-  parts-zero (suc n) h i l =
-      let before = parts-zero n (omega arith) in
+  parts_zero zero h i l = sym (sum_none _)
+  parts_zero (suc n) h i l =
+      let before = parts_zero n (omega arith) in
       sum_last n (λ j. times (y j) (e j i)) ∙ ap₂ plus (before i l) (no_part n (omega arith) (before n (omega arith)) i l)
 
 echelon_zero : (m : ℕ) (e : Matrix) (w : ℕ → ℕ) → Echelon m e → Spanned m m e w → ((p : ℕ) → p < m → e p p ≡ 1 → w p ≡ 0) → (i : ℕ) → i < m → w i ≡ 0
-echelon_zero m e w E s clear i l = s.1 i l ∙ parts-zero m e E s.0 (λ p h one. sym (s.1 p h) ∙ clear p h one) m (omega arith) i l
+echelon_zero m e w E s clear i l = s.1 i l ∙ parts_zero m e E s.0 (λ p h one. sym (s.1 p h) ∙ clear p h one) m (omega arith) i l
 
 -- ---- rows that agree below k, and perhaps one more
 

@@ -86,11 +86,11 @@ module _ (count m : ℕ) (row : Matrix) (candidate : ℕ → Bool) (c : Chosen) 
   counted_all = how_many_stop chosen.end count taken chosen.there choice.later ∙ sym choice.number
 
   -- what is orthogonal to the rows taken, and to those listed
-  listed-zero : (v : ℕ → ℕ) → ((j : ℕ) → taken j ≡ true → product m (row j) v ≡ 0) → (t : ℕ) → t < c.count → product m (listed_rows row c t) v ≡ 0
-  listed-zero v zeros t h = zeros (at c.numbers t) (listed_taken t h).0
+  listed_zero : (v : ℕ → ℕ) → ((j : ℕ) → taken j ≡ true → product m (row j) v ≡ 0) → (t : ℕ) → t < c.count → product m (listed_rows row c t) v ≡ 0
+  listed_zero v zeros t h = zeros (at c.numbers t) (listed_taken t h).0
 
-  taken-zero : (v : ℕ → ℕ) → ((t : ℕ) → t < c.count → product m (listed_rows row c t) v ≡ 0) → (j : ℕ) → taken j ≡ true → product m (row j) v ≡ 0
-  taken-zero v zeros j e = ap (λ (k : ℕ). product m (row k) v) (sym (taken_listed j e)) ∙ zeros (how_many j taken) (listed_low j e)
+  taken_zero : (v : ℕ → ℕ) → ((t : ℕ) → t < c.count → product m (listed_rows row c t) v ≡ 0) → (j : ℕ) → taken j ≡ true → product m (row j) v ≡ 0
+  taken_zero v zeros j e = ap (λ (k : ℕ). product m (row k) v) (sym (taken_listed j e)) ∙ zeros (how_many j taken) (listed_low j e)
 
   -- ---- fewer than m rows were taken
 
@@ -102,7 +102,7 @@ module _ (count m : ℕ) (row : Matrix) (candidate : ℕ → Bool) (c : Chosen) 
   pub candidates_zero : c.count < m → (v : ℕ → ℕ) → ((t : ℕ) → t < c.count → product m (listed_rows row c t) v ≡ 0)
       → (k : ℕ) → k < count → candidate k ≡ true → product m (row k) v ≡ 0
   candidates_zero h v zeros k l =
-      candidate_zero m row candidate chosen.end taken choice.takes v (λ j b. taken-zero v zeros j) k (omega (arith, l, all_seen h))
+      candidate_zero m row candidate chosen.end taken choice.takes v (λ j b. taken_zero v zeros j) k (omega (arith, l, all_seen h))
 
   module _ (t : Matrix) (rank : ℕ) (reduced : Reduces c.count m (listed_rows row c) t rank) where
     -- as many as the rank says
@@ -117,11 +117,11 @@ module _ (count m : ℕ) (row : Matrix) (candidate : ℕ → Bool) (c : Chosen) 
 
       -- only the zero vector is orthogonal to the rows taken
       pub determined : (v : ℕ → ℕ) → BytesTo m v → ((j : ℕ) → taken j ≡ true → product m (row j) v ≡ 0) → (i : ℕ) → i < m → v i ≡ 0
-      determined v bytes zeros = reduced.determining.0 full v bytes (listed-zero v zeros)
+      determined v bytes zeros = reduced.determining.0 full v bytes (listed_zero v zeros)
 
       -- a row past those seen is a combination of those taken
-      past-combined : ((k i : ℕ) → row k i < 256) → (k : ℕ) → chosen.end ≤ k → Combined m row taken k
-      past-combined low k h =
+      past_combined : ((k i : ℕ) → row k i < 256) → (k : ℕ) → chosen.end ≤ k → Combined m row taken k
+      past_combined low k h =
           let number : c.count ≡ how_many k taken = choice.number ∙ sym (how_many_stop chosen.end k taken h choice.later) in
           spanned_listed taken (at c.numbers) row m k (λ j l. taken_listed j)
           (subst (λ (n : ℕ). Spanned n m (listed_rows row c) (row k)) number
@@ -133,5 +133,5 @@ module _ (count m : ℕ) (row : Matrix) (candidate : ℕ → Bool) (c : Chosen) 
             candidates = λ k h e. choice.takes.candidates k (taken_low k e) e;
             independent = λ k h e. choice.takes.independent k (taken_low k e) e;
             every = λ k h f e.
-                ⊎_elim (λ (l : k < chosen.end). choice.takes.every k l f e) (λ (l : chosen.end ≤ k). past-combined low k l) (order k chosen.end);
+                ⊎_elim (λ (l : k < chosen.end). choice.takes.every k l f e) (λ (l : chosen.end ≤ k). past_combined low k l) (order k chosen.end);
           }

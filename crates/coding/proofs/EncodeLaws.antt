@@ -55,9 +55,9 @@ pub record Encodable (z : Sizes) (s : List ℕ) (node place : ℕ) (file padding
   pub row_length : length row ≡ z.m
 
 module _ (s : List ℕ) (node place : ℕ) (file padding key row : List ℕ) where
-  accepted-encode : Passed (archive_answer s (encode node place file padding key row)) → Encodable (sizes_of s) s node place file padding key row
+  accepted_encode : Passed (archive_answer s (encode node place file padding key row)) → Encodable (sizes_of s) s node place file padding key row
   unfolding archive_answer answer_for
-  accepted-encode ok =
+  accepted_encode ok =
       let z : Sizes = sizes_of s in
       let a = accepted _ _ _ ok in
       let l = accepted _ _ _ a.1 in
@@ -76,14 +76,14 @@ module _ (s : List ℕ) (node place : ℕ) (file padding key row : List ℕ) whe
 
   -- for the sizes as they were read
   pub encodable : {z : Sizes} → z ≡ sizes_of s → Passed (archive_answer s (encode node place file padding key row)) → Encodable z s node place file padding key row
-  encodable read ok = rw read (accepted-encode ok)
+  encodable read ok = rw read (accepted_encode ok)
 
 -- ---- the block
 
 module _ (z : Sizes) (file padding row : List ℕ) where
-  source-padding : (i e : ℕ) → 2 ≤ z.n → e < 2 → source z file padding i (z.n - 2 + e) ≡ at padding (i * 2 + e)
+  source_padding : (i e : ℕ) → 2 ≤ z.n → e < 2 → source z file padding i (z.n - 2 + e) ≡ at padding (i * 2 + e)
   unfolding source
-  source-padding i e l h =
+  source_padding i e l h =
       let q : z.n - 2 + e - (z.n - 2) ≡ e = omega arith in
       rw (le-ltb (z.n - 2 + e) (z.n - 2) (omega arith), lt-ltb (z.n - 2 + e) z.n (omega arith), q)
 
@@ -94,21 +94,21 @@ module _ (z : Sizes) (file padding row : List ℕ) where
   abbrev padding_mixed : ℕ → ℕ
   padding_mixed = mixed z.m (λ i. at row (0 + i * 1)) (λ i e. at padding (0 + i * 2 + e))
 
-  file-coded : (e : ℕ) → e < z.n - 2 → file_mixed e ≡ coded z file padding (at row) e
+  file_coded : (e : ℕ) → e < z.n - 2 → file_mixed e ≡ coded z file padding (at row) e
   unfolding coded mixed
-  file-coded e h =
+  file_coded e h =
       sum_same z.m _ _ (λ i g.
       let p : 0 + i * 1 ≡ i = omega arith in
       let q : 0 + i * (z.n - 2) + e ≡ i * (z.n - 2) + e = omega arith in
       rw (p, q, source_file z file padding i e h))
 
-  padding-coded : (e : ℕ) → 2 ≤ z.n → e < 2 → padding_mixed e ≡ coded z file padding (at row) (z.n - 2 + e)
+  padding_coded : (e : ℕ) → 2 ≤ z.n → e < 2 → padding_mixed e ≡ coded z file padding (at row) (z.n - 2 + e)
   unfolding coded mixed
-  padding-coded e l h =
+  padding_coded e l h =
       sum_same z.m _ _ (λ i g.
       let p : 0 + i * 1 ≡ i = omega arith in
       let q : 0 + i * 2 + e ≡ i * 2 + e = omega arith in
-      rw (p, q, source-padding i e l h))
+      rw (p, q, source_padding i e l h))
 
   -- zeroed, then the file's combination added, then the padding's
   module _ (start : ℕ) (d : List ℕ) (low : 2 ≤ z.n) (fits : start + block_length z ≤ length d) where
@@ -121,14 +121,14 @@ module _ (z : Sizes) (file padding row : List ℕ) where
     abbrev padded : List ℕ
     padded = added 2 (start + (z.n - 2)) padding_mixed filed
 
-    long-zeroed : length zeroed ≡ length d
-    long-zeroed = length_put z.n start _ d
+    long_zeroed : length zeroed ≡ length d
+    long_zeroed = length_put z.n start _ d
 
-    long-filed : length filed ≡ length d
-    long-filed = length_added (z.n - 2) start file_mixed zeroed ∙ long-zeroed
+    long_filed : length filed ≡ length d
+    long_filed = length_added (z.n - 2) start file_mixed zeroed ∙ long_zeroed
 
-    zero-at : (e : ℕ) → e < z.n → at zeroed (start + e) ≡ 0
-    zero-at e h = put_at z.n start _ d e h (omega arith)
+    zero_at : (e : ℕ) → e < z.n → at zeroed (start + e) ≡ 0
+    zero_at e h = put_at z.n start _ d e h (omega arith)
 
     below : (k : ℕ) → k < start → at padded k ≡ at d k
     below k h =
@@ -140,26 +140,26 @@ module _ (z : Sizes) (file padding row : List ℕ) where
         added_above 2 (start + (z.n - 2)) padding_mixed filed k (omega arith) ∙ added_above (z.n - 2) start file_mixed zeroed k (omega arith)
         ∙ put_above z.n start _ d k h
 
-    in-file : (e : ℕ) → e < z.n - 2 → at padded (start + e) ≡ coded z file padding (at row) e
-    in-file e h =
+    in_file : (e : ℕ) → e < z.n - 2 → at padded (start + e) ≡ coded z file padding (at row) e
+    in_file e h =
         added_below 2 (start + (z.n - 2)) padding_mixed filed (start + e) (omega arith)
-        ∙ added_at (z.n - 2) start file_mixed zeroed e h (omega (arith, long-zeroed))
-        ∙ ap (λ (x : ℕ). plus x (file_mixed e)) (zero-at e (omega arith)) ∙ file-coded e h
+        ∙ added_at (z.n - 2) start file_mixed zeroed e h (omega (arith, long_zeroed))
+        ∙ ap (λ (x : ℕ). plus x (file_mixed e)) (zero_at e (omega arith)) ∙ file_coded e h
 
-    in-padding : (e : ℕ) → e < 2 → at padded (start + (z.n - 2 + e)) ≡ coded z file padding (at row) (z.n - 2 + e)
-    in-padding e h =
+    in_padding : (e : ℕ) → e < 2 → at padded (start + (z.n - 2 + e)) ≡ coded z file padding (at row) (z.n - 2 + e)
+    in_padding e h =
         let q : start + (z.n - 2) + e ≡ start + (z.n - 2 + e) = omega arith in
         let none : at filed (start + (z.n - 2) + e) ≡ 0 =
-        added_above (z.n - 2) start file_mixed zeroed (start + (z.n - 2) + e) (omega arith) ∙ ap (at zeroed) q ∙ zero-at (z.n - 2 + e) (omega arith) in
-        ap (at padded) (sym q) ∙ added_at 2 (start + (z.n - 2)) padding_mixed filed e h (omega (arith, long-filed))
-        ∙ ap (λ (x : ℕ). plus x (padding_mixed e)) none ∙ padding-coded e low h
+        added_above (z.n - 2) start file_mixed zeroed (start + (z.n - 2) + e) (omega arith) ∙ ap (at zeroed) q ∙ zero_at (z.n - 2 + e) (omega arith) in
+        ap (at padded) (sym q) ∙ added_at 2 (start + (z.n - 2)) padding_mixed filed e h (omega (arith, long_filed))
+        ∙ ap (λ (x : ℕ). plus x (padding_mixed e)) none ∙ padding_coded e low h
 
     front : padded ≡ put z.n start (coded z file padding (at row)) d
     front =
-        is_put z.n start _ d padded (length_added 2 (start + (z.n - 2)) padding_mixed filed ∙ long-filed) (omega arith)
+        is_put z.n start _ d padded (length_added 2 (start + (z.n - 2)) padding_mixed filed ∙ long_filed) (omega arith)
         (λ e h.
-        ⊎_elim (in-file e)
-        (λ (l : z.n - 2 ≤ e). let q : e ≡ z.n - 2 + (e - (z.n - 2)) = omega arith in rw q (in-padding (e - (z.n - 2)) (omega arith)))
+        ⊎_elim (in_file e)
+        (λ (l : z.n - 2 ≤ e). let q : e ≡ z.n - 2 + (e - (z.n - 2)) = omega arith in rw q (in_padding (e - (z.n - 2)) (omega arith)))
         (order e (z.n - 2)))
         below above
 

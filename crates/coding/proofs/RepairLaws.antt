@@ -67,9 +67,9 @@ pub record Repairable (z : Sizes) (s : List ℕ) (target : ℕ) (helpers : List 
   pub present : any_below (length helpers) (λ i. leb z.nodes (at helpers i)) ≡ false
 
 module _ (s : List ℕ) (target : ℕ) (helpers : List ℕ) (q : ℕ) (gammas thetas : List ℕ) (scratch : ℕ) where
-  accepted-repair : Passed (archive_answer s (repair target helpers q gammas thetas scratch)) → Repairable (sizes_of s) s target helpers q gammas thetas scratch
+  accepted_repair : Passed (archive_answer s (repair target helpers q gammas thetas scratch)) → Repairable (sizes_of s) s target helpers q gammas thetas scratch
   unfolding archive_answer answer_for
-  accepted-repair ok =
+  accepted_repair ok =
       let a = accepted _ _ _ ok in
       let n = accepted _ _ _ a.1 in
       let Q = inside 1 8 q (none_at _ 1 n.0) in
@@ -92,7 +92,7 @@ module _ (s : List ℕ) (target : ℕ) (helpers : List ℕ) (q : ℕ) (gammas th
   -- for the sizes as they were read
   pub repairable : {z : Sizes} → z ≡ sizes_of s → Passed (archive_answer s (repair target helpers q gammas thetas scratch))
       → Repairable z s target helpers q gammas thetas scratch
-  repairable read ok = rw read (accepted-repair ok)
+  repairable read ok = rw read (accepted_repair ok)
 
 -- ---- the repair blocks
 
@@ -181,21 +181,21 @@ record_made count places len k e thetas scratch =
 
 module _ (z : Sizes) (s helpers : List ℕ) (q : ℕ) (gammas thetas : List ℕ) where
   -- the combination of the blocks in a row is that of the definition, helper by helper
-  target-made : (k e : ℕ) {made : List ℕ} → 1 ≤ q → e < record_length z → made ≡ scratch_made z s helpers q gammas
+  target_made : (k e : ℕ) {made : List ℕ} → 1 ≤ q → e < record_length z → made ≡ scratch_made z s helpers q gammas
       → mixed (length helpers * q) (λ t. at thetas (t * z.places + k)) (λ t e. at made (t * record_length z + e)) e
       ≡ target_byte z s helpers q gammas thetas k e
   unfolding scratch_made
-  target-made k e {made = made} low he blocks =
+  target_made k e {made = made} low he blocks =
       mixed_vectors (length helpers * q) _ _ (λ t. repair_byte z s helpers q gammas (t / q) (t % q)) e
       (λ t h. ap (λ (l : List ℕ). at l (t * record_length z + e)) blocks ∙ flat_at (length helpers * q) (record_length z) _ t e h he)
       ∙ target_mixed z s helpers q gammas thetas k e low
 
   -- the marks set, and then the records
-  target-effect : (target scratch : ℕ) → grid z.places (record_length z) (record_start z (target * z.places)) (target_byte z s helpers q gammas thetas)
+  target_effect : (target scratch : ℕ) → grid z.places (record_length z) (record_start z (target * z.places)) (target_byte z s helpers q gammas thetas)
       (with_marks (over (target * z.places) z.places (λ i. true) (mark_at s)) s)
       ≡ effect_for z (id_of s) s (repair target helpers q gammas thetas scratch)
   unfolding effect_for stored
-  target-effect target scratch =
+  target_effect target scratch =
       let first : place_number z target 0 ≡ target * z.places = omega arith in
       rw first
 
@@ -208,5 +208,5 @@ module _ (z : Sizes) (s helpers : List ℕ) (q : ℕ) (gammas thetas : List ℕ)
   target_filled target scratch {made} read low blocks marks records =
       records ∙ ap (grid _ _ _ _) marks
       ∙ grid_same z.places (record_length z) (record_start z (target * z.places)) _ (target_byte z s helpers q gammas thetas) _
-      (λ k e h he. target-made k e {made = made} low he (rw read blocks))
-      ∙ target-effect target scratch ∙ ap (λ (x : Sizes). effect_for x (id_of s) s (repair target helpers q gammas thetas scratch)) read
+      (λ k e h he. target_made k e {made = made} low he (rw read blocks))
+      ∙ target_effect target scratch ∙ ap (λ (x : Sizes). effect_for x (id_of s) s (repair target helpers q gammas thetas scratch)) read

@@ -51,13 +51,13 @@ module _ (p l : List ℕ) where
       let w = both (all 256 (low l)) _ v.1 in
       (u.0, v.0, w.0, w.1)
 
-  powers-are : T (eqb (at p 0) 1) → T (all 254 (step p)) → (k : ℕ) → k < 255 → at p k ≡ power 3 k
+  powers_are : T (eqb (at p 0) 1) → T (all 254 (step p)) → (k : ℕ) → k < 255 → at p k ≡ power 3 k
   unfolding power
-  powers-are f s zero h = eqb→eq (at p 0) 1 f
-  powers-are f s (suc k) h = eqb→eq _ _ (all_at 254 (step p) s k (omega arith)) ∙ ap (times 3) (powers-are f s k (omega arith))
+  powers_are f s zero h = eqb→eq (at p 0) 1 f
+  powers_are f s (suc k) h = eqb→eq _ _ (all_at 254 (step p) s k (omega arith)) ∙ ap (times 3) (powers_are f s k (omega arith))
 
-  twice-are : {t : List ℕ} → Laid p l t → ((k : ℕ) → k < 255 → at p k ≡ power 3 k) → (k : ℕ) → k < logs_start → at t k ≡ power 3 k
-  twice-are d e k h =
+  twice_are : {t : List ℕ} → Laid p l t → ((k : ℕ) → k < 255 → at p k ≡ power 3 k) → (k : ℕ) → k < logs_start → at t k ≡ power 3 k
+  twice_are d e k h =
       ⊎_elim
       (λ (b : k < 255). d.first k b ∙ e k b)
       (λ (b : 255 ≤ k).
@@ -65,18 +65,18 @@ module _ (p l : List ℕ) where
       rw q at (d.again (k - 255) (omega arith)) ∙ e (k - 255) (omega arith) ∙ power_back k b)
       (order k 255)
 
-  logs-are : ((k : ℕ) → k < 255 → at p k ≡ power 3 k) → LogBelow l → T (all 255 (place p l)) → (a : ℕ) → 0 < a → a < 256 → power 3 (at l a) ≡ a
-  logs-are e b o zero h g = absurd (not-suc-le-zero h)
-  logs-are e b o (suc k) h g =
+  logs_are : ((k : ℕ) → k < 255 → at p k ≡ power 3 k) → LogBelow l → T (all 255 (place p l)) → (a : ℕ) → 0 < a → a < 256 → power 3 (at l a) ≡ a
+  logs_are e b o zero h g = absurd (not-suc-le-zero h)
+  logs_are e b o (suc k) h g =
       sym (e (at l (suc k)) (b (suc k) g)) ∙ eqb→eq _ _ (all_at 255 (place p l) o k (omega arith))
 
   pub tables_pass : {t : List ℕ} → Laid p l t → T (pass p l) → FieldTables t
   tables_pass d t =
       let u = parts t in
-      let powers : (k : ℕ) → k < 255 → at p k ≡ power 3 k = powers-are u.0 u.1 in
+      let powers : (k : ℕ) → k < 255 → at p k ≡ power 3 k = powers_are u.0 u.1 in
       let below : LogBelow l = λ a h. ltb→lt _ _ (all_at 256 (low l) u.2 a h) in
       record {
-        power_of = twice-are d powers;
+        power_of = twice_are d powers;
         exponent = λ a h. rw (d.logs a h) (below a h);
-        logarithm = λ a f h. ap (power 3) (d.logs a h) ∙ logs-are powers below u.3 a f h;
+        logarithm = λ a f h. ap (power 3) (d.logs a h) ∙ logs_are powers below u.3 a f h;
       }

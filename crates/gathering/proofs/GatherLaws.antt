@@ -35,8 +35,8 @@ none_bad p q r = any_skip _ _ p ∙ any_skip _ _ q ∙ any_last _ ∙ r
 pub gather_answered : (archive share : List ℕ) {z : Sizes} → z ≡ sizes_of archive → bad_archive archive ≡ false → bad_archive share ≡ false
     → other_archive archive share ≡ false → (node : ℕ) {o : Outcome} → o ≡ gather_for z (filled_in z archive) node → o ≡ gather_answer archive share node
 unfolding gather_answer
-gather_answered archive share read good share-good begins node e =
-    e ∙ ap (λ (x : Sizes). gather_for x (filled_in x archive) node) read ∙ sym (passed _ _ (none_bad good share-good begins))
+gather_answered archive share read good share_good begins node e =
+    e ∙ ap (λ (x : Sizes). gather_for x (filled_in x archive) node) read ∙ sym (passed _ _ (none_bad good share_good begins))
 
 -- ---- the marks of the places from k on, one after the other
 
@@ -79,12 +79,12 @@ module _ (archive share : List ℕ) (node : ℕ) {z : Sizes} (done : Passed (gat
   good : bad_archive archive ≡ false
   good = none_at _ 0 none
 
-  share-good : bad_archive share ≡ false
-  share-good = none_at _ 1 none
+  share_good : bad_archive share ≡ false
+  share_good = none_at _ 1 none
 
   -- the share has the archive's sizes
-  share-read : z ≡ sizes_of share
-  share-read = read ∙ same_sizes archive share (none_at _ 2 none)
+  share_read : z ≡ sizes_of share
+  share_read = read ∙ same_sizes archive share (none_at _ 2 none)
 
   there : node < z.nodes
   unfolding gather_answer
@@ -100,7 +100,7 @@ module _ (archive share : List ℕ) (node : ℕ) {z : Sizes} (done : Passed (gat
   long_enough = omega (arith, good_length archive good)
 
   pub share_long : 18 ≤ length share
-  share_long = omega (arith, good_length share share-good)
+  share_long = omega (arith, good_length share share_good)
 
   -- the node's places are among those that have marks, and their records lie in the archive and in the share
   pub places_low : node * z.places + z.places ≤ mark_count
@@ -108,7 +108,7 @@ module _ (archive share : List ℕ) (node : ℕ) {z : Sizes} (done : Passed (gat
 
   module _ {start len : ℕ} (starts : start ≡ record_start z (node * z.places)) (measures : len ≡ record_length z) where
     pub share_fits : start + z.places * len ≤ length share
-    share_fits = rw (starts, measures, read_length share share-read share-good) (node_in z node there)
+    share_fits = rw (starts, measures, read_length share share_read share_good) (node_in z node there)
 
     pub records_fit : (mark : ℕ → Bool) {t : List ℕ} → t ≡ with_marks mark archive → start + z.places * len ≤ length t
     records_fit mark e = rw (starts, measures, e, length_marks mark archive, read_length archive read good) (node_in z node there)

@@ -91,9 +91,9 @@ module _ (key nonce : List ℕ) where
   unfolding fresh stream_at
   fresh_is = first key nonce 0
 
-  byte-is : (i : ℕ) → (drawn (stream_at key nonce i)).byte ≡ byte_at key nonce i
+  byte_is : (i : ℕ) → (drawn (stream_at key nonce i)).byte ≡ byte_at key nonce i
   unfolding stream_at drawn byte_at block_of
-  byte-is i = sym (block_byte _ (i % 64) (omega arith))
+  byte_is i = sym (block_byte _ (i % 64) (omega arith))
 
   moved : (i : ℕ) → (drawn (stream_at key nonce i)).stream ≡ stream_at key nonce (i + 1)
   unfolding stream_at drawn moved_to
@@ -119,7 +119,7 @@ module _ (key nonce : List ℕ) where
   after_is (suc i) = ap (λ (s : Stream). (drawn s).stream) (after_is i) ∙ moved i ∙ ap (stream_at key nonce) (add-one i)
 
   pub draws_in_order : (i : ℕ) → (drawn (after i (fresh key nonce))).byte ≡ byte_at key nonce i
-  draws_in_order i = ap (λ (s : Stream). (drawn s).byte) (after_is i) ∙ byte-is i
+  draws_in_order i = ap (λ (s : Stream). (drawn s).byte) (after_is i) ∙ byte_is i
 
   -- the same of a new stream, whose bytes are known
   pub draw_at : (i : ℕ) {s : Stream} {d : Drawn} → s ≡ after i (fresh key nonce) → d ≡ drawn s → (d.byte ≡ byte_at key nonce i) × (d.stream ≡ after (i + 1) (fresh key nonce))

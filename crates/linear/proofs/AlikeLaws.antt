@@ -14,15 +14,15 @@ module _ (k m : ℕ) (a b : Matrix) (same : Alike k m a b) where
   row_same : (x : Vec) (j : ℕ) → j < k → product m (a j) x ≡ product m (b j) x
   row_same x j l = product_same m (a j) (b j) x (λ i h. same j i l h)
 
-  sum-of-rows-same : (y : Vec) (c : ℕ) → c < m → mixed k y a c ≡ mixed k y b c
-  sum-of-rows-same y c l = mixed_vectors k y a b c (λ i h. same i c h l)
+  sum_of_rows_same : (y : Vec) (c : ℕ) → c < m → mixed k y a c ≡ mixed k y b c
+  sum_of_rows_same y c l = mixed_vectors k y a b c (λ i h. same i c h l)
 
   -- what is told of the one is told of the other
   pub determining_same : Determining k m a → Determining k m b
   determining_same d x bytes h = d x bytes (λ j l. row_same x j l ∙ h j l)
 
   pub independent_same : Independent k m a → Independent k m b
-  independent_same d y bytes h = d y bytes (λ c l. sum-of-rows-same y c l ∙ h c l)
+  independent_same d y bytes h = d y bytes (λ c l. sum_of_rows_same y c l ∙ h c l)
 
   pub orthogonal_same : Orthogonal k m a → Orthogonal k m b
   orthogonal_same w =
@@ -43,7 +43,7 @@ module _ (k m : ℕ) (a b : Matrix) (same : Alike k m a b) where
         one = w.one;
         one_there = w.one_there;
         one_not = w.one_not;
-        zero_sums = λ c l. sym (sum-of-rows-same w.y c l) ∙ w.zero_sums c l;
+        zero_sums = λ c l. sym (sum_of_rows_same w.y c l) ∙ w.zero_sums c l;
       }
 
   pub reduces_same : (t : Matrix) (rank : ℕ) → Reduces k m a t rank → Reduces k m b t rank
@@ -55,13 +55,13 @@ module _ (k m : ℕ) (a b : Matrix) (same : Alike k m a b) where
             (λ q. determining_same (R.determining.0 q), λ d. R.determining.1 (λ x bytes h. d x bytes (λ j l. sym (row_same x j l) ∙ h j l)));
         independent = (
           λ q. independent_same (R.independent.0 q),
-          λ d. R.independent.1 (λ y bytes h. d y bytes (λ c l. sym (sum-of-rows-same y c l) ∙ h c l)),
+          λ d. R.independent.1 (λ y bytes h. d y bytes (λ c l. sym (sum_of_rows_same y c l) ∙ h c l)),
         );
         blind = λ q. orthogonal_same (R.blind q);
         vanishing = λ q. vanishing_same (R.vanishing q);
         solution = λ q x d bytes low h. R.solution q x d bytes low (λ j l. row_same x j l ∙ h j l);
         solves = λ q r d low j l. sym (row_same _ j l) ∙ R.solves q r d low j l;
-        rest = λ i c h l b. sym (sum-of-rows-same (t i) c b) ∙ R.rest i c h l b;
+        rest = λ i c h l b. sym (sum_of_rows_same (t i) c b) ∙ R.rest i c h l b;
         whole = R.whole;
       }
 

@@ -100,8 +100,8 @@ module _ (k m : ℕ) (a e t : Matrix) (ab : (i j : ℕ) → a i j < 256) (R : Re
   pub entry_lt : (i j : ℕ) → i < k → j < m → e i j < 256
   entry_lt i j l b = subst (λ (z : ℕ). z < 256) (sym (R.rows i j l b)) (R.is.fwd.bytes (λ q. a q j) (λ q c. ab q j) i l)
 
-  comb-lt : (i j : ℕ) → i < k → j < k → t i j < 256
-  comb-lt i j l b = subst (λ (z : ℕ). z < 256) (sym (R.comb i j l b)) (R.is.fwd.bytes (unit_at j) (λ q c. unit_byte j q) i l)
+  comb_lt : (i j : ℕ) → i < k → j < k → t i j < 256
+  comb_lt i j l b = subst (λ (z : ℕ). z < 256) (sym (R.comb i j l b)) (R.is.fwd.bytes (unit_at j) (λ q c. unit_byte j q) i l)
 
   -- e x is the operation of a x, and t d that of d
   image : (x : Vec) → Agree k (λ i. product m (e i) x) (R.op (λ l. product m (a l) x))
@@ -149,8 +149,8 @@ module _ (k m : ℕ) (a e t : Matrix) (ab : (i j : ℕ) → a i j < 256) (R : Re
     determines q x hx h i l = solution q x (λ j. 0) hx (λ j b. omega arith) h i l ∙ sum_zero k _ (λ j b. times_zero (t i j))
 
     -- row i of e at the pivots, times w: element i of w, which is 0 past the rank
-    at-pivots : (w : Vec) (i : ℕ) → i < k → w i < 256 → (r ≤ i → w i ≡ 0) → sum r (λ q. times (w q) (e i (p q))) ≡ w i
-    at-pivots w i l h z = sum_same r _ _ (λ q b. ap (times (w q)) (s.alone q i b l)) ∙ go (dec_lt i r)
+    at_pivots : (w : Vec) (i : ℕ) → i < k → w i < 256 → (r ≤ i → w i ≡ 0) → sum r (λ q. times (w q) (e i (p q))) ≡ w i
+    at_pivots w i l h z = sum_same r _ _ (λ q b. ap (times (w q)) (s.alone q i b l)) ∙ go (dec_lt i r)
       where
         other : (q : ℕ) → q ≢ i → times (w q) (unit_at q i) ≡ 0
         other q n = ap (times (w q)) (sel_other i q 1 0 (λ y. n (sym y))) ∙ times_zero (w q)
@@ -159,25 +159,25 @@ module _ (k m : ℕ) (a e t : Matrix) (ab : (i j : ℕ) → a i j < 256) (R : Re
         go (yes b) = sum_one r i (λ q. times (w q) (unit_at q i)) b (λ q c. other q) ∙ ap (times (w i)) (sel_self i 1 0) ∙ times_one h
         go (no b) = sum_zero r _ (λ q c. other q (λ y. b (omega arith))) ∙ sym (z (omega arith))
 
-    placed-pivots : (w : Vec) (i : ℕ) → i < k → w i < 256 → (r ≤ i → w i ≡ 0) → product m (e i) (placed r p w) ≡ w i
-    placed-pivots w i l h z = product_placed m r (e i) p w s.before (λ j b. entry_lt i j l b) ∙ at-pivots w i l h z
+    placed_pivots : (w : Vec) (i : ℕ) → i < k → w i < 256 → (r ≤ i → w i ≡ 0) → product m (e i) (placed r p w) ≡ w i
+    placed_pivots w i l h z = product_placed m r (e i) p w s.before (λ j b. entry_lt i j l b) ∙ at_pivots w i l h z
 
     -- rank below m: a column f without a pivot gives a vector that is orthogonal to all rows
     module _ (f : ℕ) (there : f < m) (free : (i : ℕ) → i < r → p i ≢ f) where
       abbrev spare : Vec
       spare c = plus (unit_at f c) (placed r p (λ i. e i f) c)
 
-      spare-one : spare f ≡ 1
+      spare_one : spare f ≡ 1
       unfolding placed
-      spare-one =
+      spare_one =
           ap₂ plus (sel_self f 1 0)
           (sum_zero r _ (λ i l. ap (times (e i f)) (sel_other f (p i) 1 0 (λ z. free i l (sym z))) ∙ times_zero (e i f)))
 
-      spare-product : (i : ℕ) → i < k → product m (e i) spare ≡ 0
-      spare-product i l =
+      spare_product : (i : ℕ) → i < k → product m (e i) spare ≡ 0
+      spare_product i l =
           product_right m (e i) (unit_at f) (placed r p (λ q. e q f))
           ∙ ap₂ plus (by_unit m f (e i) there (entry_lt i f l there))
-          (placed-pivots (λ q. e q f) i l (entry_lt i f l there) (λ b. s.rest i f b l there))
+          (placed_pivots (λ q. e q f) i l (entry_lt i f l there) (λ b. s.rest i f b l there))
           ∙ xor_self (e i f)
 
       orthogonal : Orthogonal k m a
@@ -187,8 +187,8 @@ module _ (k m : ℕ) (a e t : Matrix) (ab : (i j : ℕ) → a i j < 256) (R : Re
             bytes = λ c l. xor_lt 8 (unit_at f c) _ (unit_byte f c) (placed_lt r p (λ i. e i f) c);
             one = f;
             one_there = there;
-            one_not = λ z. let q : ◌≡◌ {A = ℕ} 1 0 = sym spare-one ∙ z in omega arith;
-            zero_products = solved spare (λ l. 0) (λ l b. omega arith) (λ i l. spare-product i l ∙ sym (op_zero k R.is i l));
+            one_not = λ z. let q : ◌≡◌ {A = ℕ} 1 0 = sym spare_one ∙ z in omega arith;
+            zero_products = solved spare (λ l. 0) (λ l b. omega arith) (λ i l. spare_product i l ∙ sym (op_zero k R.is i l));
           }
 
     blind : r < m → Orthogonal k m a
@@ -198,7 +198,7 @@ module _ (k m : ℕ) (a e t : Matrix) (ab : (i j : ℕ) → a i j < 256) (R : Re
     reached : r ≡ k → (d : Vec) → BytesTo k d → (x : Vec) × ((i : ℕ) → i < k → product m (a i) x ≡ d i)
     reached q d h =
         let w = R.op d in
-        (placed r p w, solved (placed r p w) d h (λ i l. placed-pivots w i l (R.is.fwd.bytes d h i l) (λ b. absurd (omega arith))))
+        (placed r p w, solved (placed r p w) d h (λ i l. placed_pivots w i l (R.is.fwd.bytes d h i l) (λ b. absurd (omega arith))))
 
     -- so a combination that vanishes is orthogonal to each unit vector
     independence : r ≡ k → Independent k m a
@@ -226,7 +226,7 @@ module _ (k m : ℕ) (a e t : Matrix) (ab : (i j : ℕ) → a i j < 256) (R : Re
         let w = nonzero k (t r) (not_zeros h) in
         record {
           y = t r;
-          bytes = λ j l. comb-lt r j h l;
+          bytes = λ j l. comb_lt r j h l;
           one = w.0;
           one_there = w.1;
           one_not = w.2;
@@ -238,7 +238,7 @@ module _ (k m : ℕ) (a e t : Matrix) (ab : (i j : ℕ) → a i j < 256) (R : Re
         record {
           at_most_columns = s.within;
           at_most_rows = s.low;
-          determining = (determines, λ g. by-columns g (dec_lt r m));
+          determining = (determines, λ g. by_columns g (dec_lt r m));
           independent = (independence, λ g. by_rows g (dec_lt r k));
           blind = blind;
           vanishing = vanishing;
@@ -248,9 +248,9 @@ module _ (k m : ℕ) (a e t : Matrix) (ab : (i j : ℕ) → a i j < 256) (R : Re
           whole = whole;
         }
       where
-        by-columns : Determining k m a → Dec (r < m) → r ≡ m
-        by-columns g (yes l) = let w = blind l in absurd (w.one_not (g w.x w.bytes w.zero_products w.one w.one_there))
-        by-columns g (no l) = omega (arith, s.within)
+        by_columns : Determining k m a → Dec (r < m) → r ≡ m
+        by_columns g (yes l) = let w = blind l in absurd (w.one_not (g w.x w.bytes w.zero_products w.one w.one_there))
+        by_columns g (no l) = omega (arith, s.within)
 
         by_rows : Independent k m a → Dec (r < k) → r ≡ k
         by_rows g (yes l) = let w = vanishing l in absurd (w.one_not (g w.y w.bytes w.zero_sums w.one w.one_there))
@@ -260,10 +260,10 @@ module _ (k m : ℕ) (a e t : Matrix) (ab : (i j : ℕ) → a i j < 256) (R : Re
 
 -- the last coefficient is not zero, else the rows before the last vanish
 pub last_combined : LastIsCombined
-last_combined k m a ab g v = last_spanned k m a v.y v.zero_sums (ab k) (v.bytes k (omega arith)) (omega (arith, last-not))
+last_combined k m a ab g v = last_spanned k m a v.y v.zero_sums (ab k) (v.bytes k (omega arith)) (omega (arith, last_not))
   where
-    last-not : v.y k ≢ 0
-    last-not z =
+    last_not : v.y k ≢ 0
+    last_not z =
         v.one_not
         (⊎_elim (λ (q : v.one ≡ k). ap v.y q ∙ z)
         (g v.y (λ i l. v.bytes i (omega arith)) (without_last k m a v.y v.zero_sums z) v.one) (eq-or-lt_of_le (le_of_suc-le-suc v.one_there)))

@@ -23,12 +23,12 @@ product_comm n u v = sum_same n _ _ (λ i l. times_comm (u i) (v i))
 
 module _ (r m rank : ℕ) (a t : Matrix) (low : (i j : ℕ) → i < r → a i j < 256) (R : Reduces m r (turned a) t rank) where
   -- a column times y is the combination of the rows by y
-  column-product : (y : Vec) (c : ℕ) → product r (turned a c) y ≡ mixed r y a c
+  column_product : (y : Vec) (c : ℕ) → product r (turned a c) y ≡ mixed r y a c
   unfolding product mixed
-  column-product y c = sum_same r _ _ (λ i l. times_comm (a i c) (y i))
+  column_product y c = sum_same r _ _ (λ i l. times_comm (a i c) (y i))
 
   pub ranked : Independent r m a → rank ≡ r
-  ranked h = R.determining.1 (λ y bytes zeros. h y bytes (λ c l. sym (column-product y c) ∙ zeros c l))
+  ranked h = R.determining.1 (λ y bytes zeros. h y bytes (λ c l. sym (column_product y c) ∙ zeros c l))
 
   module _ (full : rank ≡ r) where
     alone : (i j : ℕ) → i < r → j < r → product m (a j) (t i) ≡ unit_at j i

@@ -61,17 +61,17 @@ module _ (n : ℕ) (p : ℕ → Bool) (f : ℕ → ℕ) where
       (order j (how_many n p))
   all_more P false old new j h = rw (stays false j (omega arith)) (old j (omega arith))
 
-  often-before : (b : Bool) (v : ℕ) → how_many (how_many n p) (λ j. eqb (at (after b) j) v) ≡ how_many (how_many n p) (λ j. eqb (at before j) v)
-  often-before b v = how_many_same (how_many n p) _ _ (λ j h. ap (λ (x : ℕ). eqb x v) (stays b j h))
+  often_before : (b : Bool) (v : ℕ) → how_many (how_many n p) (λ j. eqb (at (after b) j) v) ≡ how_many (how_many n p) (λ j. eqb (at before j) v)
+  often_before b v = how_many_same (how_many n p) _ _ (λ j h. ap (λ (x : ℕ). eqb x v) (stays b j h))
 
-  often-more : (b : Bool) (v : ℕ)
+  often_more : (b : Bool) (v : ℕ)
       → how_many (how_many n p + bit b) (λ j. eqb (at (after b) j) v)
       ≡ how_many (how_many n p) (λ j. eqb (at before j) v) + bit (pick b (eqb (f n) v) false)
-  often-more true v =
-      how_many_more (how_many n p) (λ j. eqb (at (after true) j) v) ∙ ap₂ ◌+◌ (often-before true v) (ap (λ (x : ℕ). bit (eqb x v)) comes)
-  often-more false v =
+  often_more true v =
+      how_many_more (how_many n p) (λ j. eqb (at (after true) j) v) ∙ ap₂ ◌+◌ (often_before true v) (ap (λ (x : ℕ). bit (eqb x v)) comes)
+  often_more false v =
       let e : how_many n p + 0 ≡ how_many n p = omega arith in
-      ap (λ (c : ℕ). how_many c (λ j. eqb (at (after false) j) v)) e ∙ often-before false v ∙ omega arith
+      ap (λ (c : ℕ). how_many c (λ j. eqb (at (after false) j) v)) e ∙ often_before false v ∙ omega arith
 
   rising_more : (R : ℕ → ℕ → Type 0) (b : Bool) → ((i j : ℕ) → i < j → j < how_many n p → R (at before i) (at before j))
       → (b ≡ true → (j : ℕ) → j < how_many n p → R (at before j) (f n))
@@ -102,7 +102,7 @@ often : (n : ℕ) (p : ℕ → Bool) (f : ℕ → ℕ) (v : ℕ)
     → how_many (how_many n p) (λ j. eqb (at (filtered n p f) j) v) ≡ how_many n (λ k. pick (p k) (eqb (f k) v) false)
 unfolding filtered how_many
 often zero p f v = refl
-often (suc n) p f v = often-more n p f (p n) v ∙ ap (λ (c : ℕ). c + bit (pick (p n) (eqb (f n) v) false)) (often n p f v)
+often (suc n) p f v = often_more n p f (p n) v ∙ ap (λ (c : ℕ). c + bit (pick (p n) (eqb (f n) v) false)) (often n p f v)
 
 -- once, if the index of a value that no other has passes, and else never
 pub filtered_once : (n : ℕ) (p : ℕ → Bool) (f : ℕ → ℕ) (k : ℕ) → k < n → ((i : ℕ) → i < n → i ≢ k → f i ≢ f k)

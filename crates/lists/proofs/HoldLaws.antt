@@ -32,18 +32,18 @@ module _ (p : ℕ → Bool) (v : ℕ) where
   unfolding filtered
   holds_more n = rw (holds_append (filtered n p (λ k. k)) (pick (p n) (n ∷ []) []) v, holds_one (p n) n v)
 
-  holds-other : (n : ℕ) → v ≢ n → passes (suc n) ≡ passes n
-  holds-other n q = holds_more n ∙ rw (ne_eqb v n q, pick_same (p n) false) (pick_test (passes n))
+  holds_other : (n : ℕ) → v ≢ n → passes (suc n) ≡ passes n
+  holds_other n q = holds_more n ∙ rw (ne_eqb v n q, pick_same (p n) false) (pick_test (passes n))
 
   holds_none : (n : ℕ) → n ≤ v → passes n ≡ false
   unfolding filtered
   holds_none zero h = refl
-  holds_none (suc n) h = holds-other n (λ e. omega arith) ∙ holds_none n (omega arith)
+  holds_none (suc n) h = holds_other n (λ e. omega arith) ∙ holds_none n (omega arith)
 
   pub filtered_holds : (n : ℕ) → v < n → passes n ≡ p v
   filtered_holds zero h = absurd (omega arith)
   filtered_holds (suc n) h =
       elim (ℕ_discrete v n) [
         | yes e ↦ holds_more n ∙ rw (holds_none n (omega arith), eq-eqb v n e) (pick_test (p n) ∙ ap p (sym e))
-        | no q ↦ holds-other n q ∙ filtered_holds n (omega arith)
+        | no q ↦ holds_other n q ∙ filtered_holds n (omega arith)
       ]

@@ -46,17 +46,17 @@ module _ (R : ℕ → ℕ → Type 0) (never : (x y : ℕ) → R x y → R y x �
           ]
         ]
 
-    alike-below : (n : ℕ) → n ≤ c → Alike n a b
-    alike-below zero h j l = absurd (omega arith)
-    alike-below (suc n) h j l =
-        elim (ℕ_discrete j n) [ yes e ↦ rw e (alike_next n h (alike-below n (omega arith))) | no e ↦ alike-below n (omega arith) j (omega arith) ]
+    alike_below : (n : ℕ) → n ≤ c → Alike n a b
+    alike_below zero h j l = absurd (omega arith)
+    alike_below (suc n) h j l =
+        elim (ℕ_discrete j n) [ yes e ↦ rw e (alike_next n h (alike_below n (omega arith))) | no e ↦ alike_below n (omega arith) j (omega arith) ]
 
     no_more : c ≤ d
     no_more =
-        ⊎_elim (λ (l : d < c). let w = later c d a b up there d l (alike-below d (omega arith)) in absurd (omega arith)) (λ l. l) (order d c)
+        ⊎_elim (λ (l : d < c). let w = later c d a b up there d l (alike_below d (omega arith)) in absurd (omega arith)) (λ l. l) (order d c)
 
   pub same_rising : (c d : ℕ) (a b : ℕ → ℕ) → Rising R c a → Rising R d b → Within c d a b → Within d c b a → (c ≡ d) × Alike c a b
   same_rising c d a b up up' there back = (
     omega (arith, no_more c d a b up up' there back, no_more d c b a up' up back there),
-    alike-below c d a b up up' there back c (omega arith),
+    alike_below c d a b up up' there back c (omega arith),
   )

@@ -46,8 +46,8 @@ module _ (z : Sizes) (s : List ℕ) (k : ℕ) where
     new : more_test x ≡ b
     new = over_within x 1 (λ i. b) w.test x (omega arith) (omega arith)
 
-    more-decided : (y : ℕ) → y < x + 1 → Decides (more_test y) (Wanted (set_at y))
-    more-decided =
+    more_decided : (y : ℕ) → y < x + 1 → Decides (more_test y) (Wanted (set_at y))
+    more_decided =
         below_more (λ y. Decides (more_test y) (Wanted (set_at y))) x
         (λ y h. subst (λ (t : Bool). Decides t (Wanted (set_at y))) (old y h) (w.decides y h))
         (subst (λ (t : Bool). Decides t (Wanted (set_at x))) (sym new) decided)
@@ -65,7 +65,7 @@ module _ (z : Sizes) (s : List ℕ) (k : ℕ) where
       let d = at_place x is tested in
       record {
         test = more_test w t d;
-        decides = more-decided w t d;
+        decides = more_decided w t d;
         listing = listing_skip 20 set_at _ (new w t d ∙ f) v m (so_far w t d);
       }
 
@@ -102,7 +102,7 @@ module _ (z : Sizes) (s : List ℕ) (k : ℕ) where
         let byte : v % 256 ≡ set_at x = omega (arith, is, set_low x) in
         record {
           test = more_test w t d;
-          decides = more-decided w t d;
+          decides = more_decided w t d;
           listing = listing_take 20 set_at _ (new w t d ∙ f) (listed_room h is tested f w) byte e m (so_far w t d);
         }
 

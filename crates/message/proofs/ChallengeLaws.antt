@@ -68,9 +68,9 @@ module _ (c : Challenge) (R : InRule c) (even : length c.coefficients ≡ length
   abbrev before : ℕ → List BitField
   before = fields_before c
 
-  before-width : (j : ℕ) → widths (before j) ≡ challenge_bits j
+  before_width : (j : ℕ) → widths (before j) ≡ challenge_bits j
   unfolding widths
-  before-width j = rw (items_width c 0 j) (omega arith)
+  before_width j = rw (items_width c 0 j) (omega arith)
 
   fields_split : (j : ℕ) → j < count
       → challenge_fields c ≡ before j ++ ((3 wide at c.places j) ∷ (8 wide at c.coefficients j) ∷ items c (suc j) (count - suc j))
@@ -83,58 +83,58 @@ module _ (c : Challenge) (R : InRule c) (even : length c.coefficients ≡ length
 
   pub bytes_length : length s ≡ challenge_length count
   unfolding challenge_bytes
-  bytes_length = pack_length (challenge_fields c) ∙ ap bytes_for (before-width count)
+  bytes_length = pack_length (challenge_fields c) ∙ ap bytes_for (before_width count)
 
-  kind-back : field_at s 0 4 ≡ 1
+  kind_back : field_at s 0 4 ≡ 1
   unfolding challenge_bytes widths
-  kind-back = pack_field [] (4 wide 1) ((3 wide c.node) ∷ (4 wide count) ∷ items c 0 count) (omega arith)
+  kind_back = pack_field [] (4 wide 1) ((3 wide c.node) ∷ (4 wide count) ∷ items c 0 count) (omega arith)
 
-  node-back : field_at s 4 3 ≡ c.node
+  node_back : field_at s 4 3 ≡ c.node
   unfolding challenge_bytes widths
-  node-back = pack_field ((4 wide 1) ∷ []) (3 wide c.node) ((4 wide count) ∷ items c 0 count) (omega (arith, R.node_low))
+  node_back = pack_field ((4 wide 1) ∷ []) (3 wide c.node) ((4 wide count) ∷ items c 0 count) (omega (arith, R.node_low))
 
-  count-back : field_at s 7 4 ≡ count
+  count_back : field_at s 7 4 ≡ count
   unfolding challenge_bytes widths
-  count-back = pack_field ((4 wide 1) ∷ (3 wide c.node) ∷ []) (4 wide count) (items c 0 count) (omega (arith, R.few))
+  count_back = pack_field ((4 wide 1) ∷ (3 wide c.node) ∷ []) (4 wide count) (items c 0 count) (omega (arith, R.few))
 
-  place-back : (j : ℕ) → j < count → field_at s (challenge_bits j) 3 ≡ at c.places j
+  place_back : (j : ℕ) → j < count → field_at s (challenge_bits j) 3 ≡ at c.places j
   unfolding challenge_bytes
-  place-back j h =
-      rw (fields_split j h, ← before-width j)
+  place_back j h =
+      rw (fields_split j h, ← before_width j)
       (pack_field (before j) (3 wide at c.places j) ((8 wide at c.coefficients j) ∷ items c (suc j) (count - suc j)) (omega (arith, R.places_low j h)))
 
-  with-place : (j : ℕ) → widths (before j ++ ((3 wide at c.places j) ∷ [])) ≡ challenge_bits j + 3
+  with_place : (j : ℕ) → widths (before j ++ ((3 wide at c.places j) ∷ [])) ≡ challenge_bits j + 3
   unfolding widths
-  with-place j = widths_more (before j) (3 wide at c.places j) ∙ rw (items_width c 0 j) (omega arith)
+  with_place j = widths_more (before j) (3 wide at c.places j) ∙ rw (items_width c 0 j) (omega arith)
 
-  coefficient-back : (j : ℕ) → j < count → field_at s (challenge_bits j + 3) 8 ≡ at c.coefficients j
+  coefficient_back : (j : ℕ) → j < count → field_at s (challenge_bits j + 3) 8 ≡ at c.coefficients j
   unfolding challenge_bytes
-  coefficient-back j h =
-      rw (fields_split j h, ← append_assoc (before j) ((3 wide at c.places j) ∷ []) ((8 wide at c.coefficients j) ∷ items c (suc j) (count - suc j)), ← with-place j)
+  coefficient_back j h =
+      rw (fields_split j h, ← append_assoc (before j) ((3 wide at c.places j) ∷ []) ((8 wide at c.coefficients j) ∷ items c (suc j) (count - suc j)), ← with_place j)
       (pack_field (before j ++ ((3 wide at c.places j) ∷ [])) (8 wide at c.coefficients j) (items c (suc j) (count - suc j)) (omega (arith, bytes j (omega arith))))
 
   pub challenge_back : challenge_of s ≡ c
   unfolding challenge_of challenge_in
   challenge_back =
-      rw count-back (three node-back
-      (ext_get_or 0 _ c.places (length_tab count _) (λ i h. let l : i < count = rw length_tab at h in tab_at count _ i l ∙ place-back i l))
-      (ext_get_or 0 _ c.coefficients (length_tab count _ ∙ sym even) (λ i h. let l : i < count = rw length_tab at h in tab_at count _ i l ∙ coefficient-back i l)))
+      rw count_back (three node_back
+      (ext_get_or 0 _ c.places (length_tab count _) (λ i h. let l : i < count = rw length_tab at h in tab_at count _ i l ∙ place_back i l))
+      (ext_get_or 0 _ c.coefficients (length_tab count _ ∙ sym even) (λ i h. let l : i < count = rw length_tab at h in tab_at count _ i l ∙ coefficient_back i l)))
     where
       three : {d : Challenge} → d.node ≡ c.node → d.places ≡ c.places → d.coefficients ≡ c.coefficients → d ≡ c
       three a b e i = record { node = a i; places = b i; coefficients = e i }
 
   -- the bits past the last item are zero
-  spare-back : field_at s (challenge_bits count) (8 * challenge_length count - challenge_bits count) ≡ 0
+  spare_back : field_at s (challenge_bits count) (8 * challenge_length count - challenge_bits count) ≡ 0
   unfolding field_at challenge_bytes
-  spare-back =
+  spare_back =
       number_same _ (λ i. false) (8 * challenge_length count - challenge_bits count)
-      (λ i h. pack_spare (challenge_fields c) (challenge_bits count + i) (omega (arith, before-width count)))
+      (λ i h. pack_spare (challenge_fields c) (challenge_bits count + i) (omega (arith, before_width count)))
       ∙ number_zero (8 * challenge_length count - challenge_bits count)
 
   pub well_formed : out_of_rule c.node c.places ≡ false → malformed_challenge s ≡ false
   unfolding malformed_for any_of
   well_formed r =
-      rw (challenge_back, kind-back, r, bytes_length, spare-back, eq-eqb (challenge_length count) (challenge_length count) refl)
+      rw (challenge_back, kind_back, r, bytes_length, spare_back, eq-eqb (challenge_length count) (challenge_length count) refl)
 
 -- ---- an accepted Challenge
 

@@ -58,25 +58,25 @@ module _ (node : ℕ) (places : List ℕ) where
   unfolding out_of_rule
   node_high h = any_here _ _ (lt-ltb _ _ h)
 
-  count-outside : outside 1 8 (length places) ≡ true → out_of_rule node places ≡ true
+  count_outside : outside 1 8 (length places) ≡ true → out_of_rule node places ≡ true
   unfolding out_of_rule
-  count-outside e = any_there _ _ (any_here _ _ e)
+  count_outside e = any_there _ _ (any_here _ _ e)
 
   pub no_place : length places < 1 → out_of_rule node places ≡ true
   unfolding outside
-  no_place h = count-outside (any_here _ _ (lt-ltb _ _ h))
+  no_place h = count_outside (any_here _ _ (lt-ltb _ _ h))
 
   pub many_places : 8 < length places → out_of_rule node places ≡ true
   unfolding outside
-  many_places h = count-outside (any_there _ _ (any_here _ _ (lt-ltb _ _ h)))
+  many_places h = count_outside (any_there _ _ (any_here _ _ (lt-ltb _ _ h)))
 
   pub place_high : any_below (length places) (λ j. ltb 7 (at places j)) ≡ true → out_of_rule node places ≡ true
   unfolding out_of_rule
   place_high e = any_there _ _ (any_there _ _ (any_here _ _ e))
 
-  place-falls : any_fall (at places) (length places) ≡ true → out_of_rule node places ≡ true
+  place_falls : any_fall (at places) (length places) ≡ true → out_of_rule node places ≡ true
   unfolding out_of_rule
-  place-falls e = any_there _ _ (any_there _ _ (any_there _ _ (any_here _ _ e)))
+  place_falls e = any_there _ _ (any_there _ _ (any_there _ _ (any_here _ _ e)))
 
   pub only_falls : node ≤ 5 → 1 ≤ length places → length places ≤ 8 → any_below (length places) (λ j. ltb 7 (at places j)) ≡ false
       → out_of_rule node places ≡ any_fall (at places) (length places)
@@ -98,29 +98,29 @@ module _ (message : List ℕ) (count : ℕ) (is : count ≡ field_at message 7 4
   unfolding malformed_for challenge_of challenge_in
   tests = rw (← is, length_tab)
 
-  out-of-rule : out_of_rule (field_at message 4 3) places ≡ true → malformed_challenge message ≡ true
-  out-of-rule e = tests ∙ any_there _ _ (any_here _ _ e)
+  out_of_rule_lem : out_of_rule (field_at message 4 3) places ≡ true → malformed_challenge message ≡ true
+  out_of_rule_lem e = tests ∙ any_there _ _ (any_here _ _ e)
 
-  places-fall : any_fall (at places) (length places) ≡ any_fall (place_in message) count
-  places-fall = rw length_tab (fall_same count (at places) (place_in message) (tab_at count (place_in message)))
+  places_fall : any_fall (at places) (length places) ≡ any_fall (place_in message) count
+  places_fall = rw length_tab (fall_same count (at places) (place_in message) (tab_at count (place_in message)))
 
   pub kind_other : {x : ℕ} → x ≡ field_at message 0 4 → (x ≡ 1 → ⊥) → malformed_challenge message ≡ true
   kind_other e n = tests ∙ any_here _ _ (differs_other (λ q. n (e ∙ q)))
 
   pub node_other : {x : ℕ} → x ≡ field_at message 4 3 → 5 < x → malformed_challenge message ≡ true
-  node_other e h = out-of-rule (node_high _ _ (omega arith))
+  node_other e h = out_of_rule_lem (node_high _ _ (omega arith))
 
   pub no_item : count < 1 → malformed_challenge message ≡ true
-  no_item h = out-of-rule (no_place _ _ (omega (arith, length_tab count (place_in message))))
+  no_item h = out_of_rule_lem (no_place _ _ (omega (arith, length_tab count (place_in message))))
 
   pub many_items : 8 < count → malformed_challenge message ≡ true
-  many_items h = out-of-rule (many_places _ _ (omega (arith, length_tab count (place_in message))))
+  many_items h = out_of_rule_lem (many_places _ _ (omega (arith, length_tab count (place_in message))))
 
   pub length_other : (length message ≡ challenge_length count → ⊥) → malformed_challenge message ≡ true
   length_other n = tests ∙ any_there _ _ (any_there _ _ (any_here _ _ (differs_other n)))
 
   pub items_fall : any_fall (place_in message) count ≡ true → malformed_challenge message ≡ true
-  items_fall e = out-of-rule (place-falls _ _ (places-fall ∙ e))
+  items_fall e = out_of_rule_lem (place_falls _ _ (places_fall ∙ e))
 
   -- a place of 3 bits is not above 7
   places_low : any_below (length places) (λ j. ltb 7 (at places j)) ≡ false
@@ -136,7 +136,7 @@ module _ (message : List ℕ) (count : ℕ) (is : count ≡ field_at message 7 4
       rw (e, exact)
       (sym
       (tests ∙ any_skip _ _ (differs_same (sym kind ∙ one))
-      ∙ any_skip _ _ (only_falls _ _ (omega arith) (omega arith) (omega arith) places_low ∙ places-fall ∙ rising)
+      ∙ any_skip _ _ (only_falls _ _ (omega arith) (omega arith) (omega arith) places_low ∙ places_fall ∙ rising)
       ∙ any_skip _ _ (differs_same (same ∙ exact)) ∙ any_last _))
 
 -- fewer than 2 bytes hold no challenge

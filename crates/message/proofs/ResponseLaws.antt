@@ -65,27 +65,27 @@ module _ (n tags node : ℕ) (block tag hidden : ℕ → ℕ) (seed : List ℕ) 
       skip (response_head node) (masked ++ (seed ++ back)) 1 i (head_length node)
       ∙ get_or-append masked (seed ++ back) 0 i (rw length_tab h) ∙ tab_at (n - 2) _ i h
 
-  response-seed-at : (i : ℕ) → i < 11 → at r (n - 1 + i) ≡ at seed i
+  response_seed_at : (i : ℕ) → i < 11 → at r (n - 1 + i) ≡ at seed i
   unfolding response_bytes
-  response-seed-at i h =
+  response_seed_at i h =
       ap (at r) {x = n - 1 + i} {y = 1 + ((n - 2) + i)} (omega arith)
       ∙ skip (response_head node) (masked ++ (seed ++ back)) 1 ((n - 2) + i) (head_length node)
       ∙ skip masked (seed ++ back) (n - 2) i (length_tab (n - 2) _) ∙ get_or-append seed back 0 i (omega arith)
 
-  response-back : (i : ℕ) → at r (n + 10 + i) ≡ at back i
+  response_back : (i : ℕ) → at r (n + 10 + i) ≡ at back i
   unfolding response_bytes
-  response-back i =
+  response_back i =
       ap (at r) {x = n + 10 + i} {y = 1 + ((n - 2) + (11 + i))} (omega arith)
       ∙ skip (response_head node) (masked ++ (seed ++ back)) 1 ((n - 2) + (11 + i)) (head_length node)
       ∙ skip masked (seed ++ back) (n - 2) (11 + i) (length_tab (n - 2) _) ∙ skip seed back 11 i es
 
   pub response_sum : (s : ℕ) → s < tags → sum_in n r s ≡ total s
   response_sum s l =
-      response-back s ∙ get_or-append (tab tags total) (clear ++ tab tags tag) 0 s (rw length_tab l) ∙ tab_at tags total s l
+      response_back s ∙ get_or-append (tab tags total) (clear ++ tab tags tag) 0 s (rw length_tab l) ∙ tab_at tags total s l
 
-  response-clear : (i : ℕ) → i < 2 → at r (clear_start n tags + i) ≡ block (n - 2 + i)
-  response-clear i l =
-      ap (at r) {x = n + 10 + tags + i} {y = n + 10 + (tags + i)} (omega arith) ∙ response-back (tags + i)
+  response_clear : (i : ℕ) → i < 2 → at r (clear_start n tags + i) ≡ block (n - 2 + i)
+  response_clear i l =
+      ap (at r) {x = n + 10 + tags + i} {y = n + 10 + (tags + i)} (omega arith) ∙ response_back (tags + i)
       ∙ skip (tab tags total) (clear ++ tab tags tag) tags i (length_tab tags total) ∙ get_or-append clear (tab tags tag) 0 i l
       ∙ ⊎_elim
       (λ (a : i < 1). let q : i ≡ 0 = omega arith in let w : n - 2 ≡ n - 2 + 0 = omega arith in rw q (ap block w))
@@ -94,7 +94,7 @@ module _ (n tags node : ℕ) (block tag hidden : ℕ → ℕ) (seed : List ℕ) 
 
   pub response_tag : (s : ℕ) → s < tags → tag_in n tags r s ≡ tag s
   response_tag s l =
-      ap (at r) {x = n + 12 + tags + s} {y = n + 10 + (tags + (2 + s))} (omega arith) ∙ response-back (tags + (2 + s))
+      ap (at r) {x = n + 12 + tags + s} {y = n + 10 + (tags + (2 + s))} (omega arith) ∙ response_back (tags + (2 + s))
       ∙ skip (tab tags total) (clear ++ tab tags tag) tags (2 + s) (length_tab tags total) ∙ skip clear (tab tags tag) 2 s refl
       ∙ tab_at tags tag s l
 
@@ -115,7 +115,7 @@ module _ (n tags node : ℕ) (block tag hidden : ℕ → ℕ) (seed : List ℕ) 
       (λ (d : k < n + 10).
       let i : ℕ = k - (n - 1) in
       let q : k ≡ n - 1 + i = omega arith in
-      rw q (seeded i (omega arith) ∙ sym (response-seed-at i (omega arith))))
+      rw q (seeded i (omega arith) ∙ sym (response_seed_at i (omega arith))))
       (λ (d : n + 10 ≤ k). behind k (omega arith) d)
       (order k (n + 10)))
       (order k (n - 1)))
@@ -133,7 +133,7 @@ module _ (n tags node : ℕ) (block tag hidden : ℕ → ℕ) (seed : List ℕ) 
           (λ (b : k < n + 12 + tags).
           let i : ℕ = k - (n + 10 + tags) in
           let q : k ≡ n + 10 + tags + i = omega arith in
-          rw q (cleared i (omega arith) ∙ sym (response-clear i (omega arith))))
+          rw q (cleared i (omega arith) ∙ sym (response_clear i (omega arith))))
           (λ (b : n + 12 + tags ≤ k).
           let i : ℕ = k - (n + 12 + tags) in
           let q : k ≡ n + 12 + tags + i = omega arith in
@@ -157,7 +157,7 @@ module _ (n tags node : ℕ) (block tag hidden : ℕ → ℕ) (seed : List ℕ) 
       (λ (l : i < n - 2). rw (lt-ltb i (n - 2) l) (response_masked i l))
       (λ (l : n - 2 ≤ i).
       let q : n - 2 + (i - (n - 2)) ≡ i = omega arith in
-      rw (le-ltb i (n - 2) l) (response-clear (i - (n - 2)) (omega arith) ∙ ap block q ∙ sym (xor_zero_r (block i))))
+      rw (le-ltb i (n - 2) l) (response_clear (i - (n - 2)) (omega arith) ∙ ap block q ∙ sym (xor_zero_r (block i))))
       (order i (n - 2))
 
 -- the same block and tags give the same response

@@ -43,24 +43,24 @@ module _ (n tags node : ℕ) (block tag total : ℕ → ℕ) (id mask_key seed :
 
   module _ (out : List ℕ) (high : n ≤ n_most) (some : 1 ≤ tags) (few : tags ≤ tags_most) (node_low : node ≤ 5) (id_size : length id ≡ 8)
       (key-size : length mask_key ≡ 32) (out_size : length out ≡ n - 2) where
-    head-field : (from w : ℕ) → from + w ≤ 8 → field_at r from w ≡ field_at (response_head node) from w
-    head-field = response_fields n tags node block tag hidden seed total low seed_size
+    head_field : (from w : ℕ) → from + w ≤ 8 → field_at r from w ≡ field_at (response_head node) from w
+    head_field = response_fields n tags node block tag hidden seed total low seed_size
 
-    kind-back : field_at r 0 4 ≡ 2
+    kind_back : field_at r 0 4 ≡ 2
     unfolding widths
-    kind-back = head-field 0 4 (omega arith) ∙ pack_field [] (4 wide 2) _ (omega arith)
+    kind_back = head_field 0 4 (omega arith) ∙ pack_field [] (4 wide 2) _ (omega arith)
 
-    node-back : field_at r 4 3 ≡ node
+    node_back : field_at r 4 3 ≡ node
     unfolding widths
-    node-back = head-field 4 3 (omega arith) ∙ pack_field ((4 wide 2) ∷ []) (3 wide node) _ (omega arith)
+    node_back = head_field 4 3 (omega arith) ∙ pack_field ((4 wide 2) ∷ []) (3 wide node) _ (omega arith)
 
-    spare-back : field_at r 7 1 ≡ 0
+    spare_back : field_at r 7 1 ≡ 0
     unfolding widths
-    spare-back = head-field 7 1 (omega arith) ∙ pack_field ((4 wide 2) ∷ (3 wide node) ∷ []) (1 wide 0) [] (omega arith)
+    spare_back = head_field 7 1 (omega arith) ∙ pack_field ((4 wide 2) ∷ (3 wide node) ∷ []) (1 wide 0) [] (omega arith)
 
-    lengths-right : any_of (differs (length id) 8 ∷ differs (length mask_key) 32 ∷ differs (length r) (response_length n tags) ∷ differs (length out) (n - 2) ∷ []) ≡ false
+    lengths_right : any_of (differs (length id) 8 ∷ differs (length mask_key) 32 ∷ differs (length r) (response_length n tags) ∷ differs (length out) (n - 2) ∷ []) ≡ false
     unfolding any_of
-    lengths-right =
+    lengths_right =
         rw (
           eq-eqb (length id) 8 id_size,
           eq-eqb (length mask_key) 32 key-size,
@@ -68,18 +68,18 @@ module _ (n tags node : ℕ) (block tag total : ℕ → ℕ) (id mask_key seed :
           eq-eqb (length out) (n - 2) out_size,
         )
 
-    head-right : any_of (differs (field_at r 0 4) 2 ∷ ltb 5 (field_at r 4 3) ∷ differs (field_at r 7 1) 0 ∷ []) ≡ false
+    head_right : any_of (differs (field_at r 0 4) 2 ∷ ltb 5 (field_at r 4 3) ∷ differs (field_at r 7 1) 0 ∷ []) ≡ false
     unfolding any_of
-    head-right = rw (kind-back, node-back, spare-back, le-ltb 5 node node_low)
+    head_right = rw (kind_back, node_back, spare_back, le-ltb 5 node node_low)
 
-    sizes-right : any_of (n_outside n ∷ tags_outside tags ∷ []) ≡ false
+    sizes_right : any_of (n_outside n ∷ tags_outside tags ∷ []) ≡ false
     unfolding any_of
-    sizes-right = rw (not_outside n_least n_most n low high, not_outside 1 tags_most tags some few)
+    sizes_right = rw (not_outside n_least n_most n low high, not_outside 1 tags_most tags some few)
 
-    unmask-accepts : unmask_answer n tags id mask_key r out ≡ Done
+    unmask_accepts : unmask_answer n tags id mask_key r out ≡ Done
     unfolding unmask_answer
-    unmask-accepts = passed Size _ sizes-right ∙ passed Length _ lengths-right ∙ passed Malformed _ head-right
+    unmask_accepts = passed Size _ sizes_right ∙ passed Length _ lengths_right ∙ passed Malformed _ head_right
 
     pub unmask_gives : (unmask_answer n tags id mask_key r out ≡ Done) × (unmask_out n tags id mask_key r out ≡ tab (n - 2) block)
     unfolding unmask_out
-    unmask_gives = (unmask-accepts, after_done _ _ unmask-accepts ∙ tab_same (n - 2) _ _ unmask_element)
+    unmask_gives = (unmask_accepts, after_done _ _ unmask_accepts ∙ tab_same (n - 2) _ _ unmask_element)

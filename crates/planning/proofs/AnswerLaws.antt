@@ -45,13 +45,13 @@ module _ (z : Sizes) (s helpers : List ℕ) (q : ℕ) (gammas : List ℕ) where
 
   module _ (sent : List ℕ) (few : count ≤ 40) (made : (t i : ℕ) → t < count → i < z.m → at sent (t * z.m + i) ≡ row t i) (c : Chosen)
       (chose : WholeChoice count z.m (row_at sent (together count z.m)) (offered (replicate 48 1)) c) where
-    sent-row : (t i : ℕ) → t < count → i < z.m → row_at sent (together count z.m) t i ≡ row t i
-    sent-row t i h l = let from : 0 + t * z.m + i ≡ t * z.m + i = omega arith in ap (at sent) from ∙ made t i h l
+    sent_row : (t i : ℕ) → t < count → i < z.m → row_at sent (together count z.m) t i ≡ row t i
+    sent_row t i h l = let from : 0 + t * z.m + i ≡ t * z.m + i = omega arith in ap (at sent) from ∙ made t i h l
 
     -- the choice among the repair rows, all of which are candidates
     pub chosen : WholeChoice count z.m row (λ j. true) c
     chosen =
-        whole_alike count z.m (row_at sent (together count z.m)) row (offered (replicate 48 1)) (λ j. true) c sent-row
+        whole_alike count z.m (row_at sent (together count z.m)) row (offered (replicate 48 1)) (λ j. true) c sent_row
         (λ k h. ap (λ (x : ℕ). not (eqb x 0)) (get_or-replicate 48 k 1 0 (omega arith))) chose
 
     -- and the elimination on the columns of those taken
@@ -63,7 +63,7 @@ module _ (z : Sizes) (s helpers : List ℕ) (q : ℕ) (gammas : List ℕ) where
         reduces_same z.m c.count (cells b) (turned (listed_rows row c))
         (λ i j h l.
         turn i j (omega arith) (omega (arith, chosen.choice.fits)) ∙ taken j i l h
-        ∙ sent-row (at c.numbers j) i (omega (arith, chosen.choice.below j l, chosen.there)) h)
+        ∙ sent_row (at c.numbers j) i (omega (arith, chosen.choice.below j l, chosen.there)) h)
         t rank
 
     -- ---- the answers

@@ -37,8 +37,8 @@ module _ (s helpers : List ℕ) (q : ℕ) (gammas rows thetas : List ℕ) where
       → o ≡ plan_before s helpers q gammas rows thetas
   answered read good e = e ∙ ap (λ (x : Sizes). plan_for x (filled_in x s) helpers q gammas rows thetas) read ∙ sym (passed _ _ good)
 
-  accepted-plan : Passed (plan_before s helpers q gammas rows thetas) → Plannable (sizes_of s) s helpers q gammas rows thetas
-  accepted-plan ok =
+  accepted_plan : Passed (plan_before s helpers q gammas rows thetas) → Plannable (sizes_of s) s helpers q gammas rows thetas
+  accepted_plan ok =
       let a = accepted _ _ _ ok in
       let n = accepted _ _ _ a.1 in
       let Q = inside 1 sent_most q (none_at _ 1 n.0) in
@@ -56,7 +56,7 @@ module _ (s helpers : List ℕ) (q : ℕ) (gammas rows thetas : List ℕ) where
       }
 
   pub plannable : {z : Sizes} → z ≡ sizes_of s → Passed (plan_before s helpers q gammas rows thetas) → Plannable z s helpers q gammas rows thetas
-  plannable read ok = rw read (accepted-plan ok)
+  plannable read ok = rw read (accepted_plan ok)
 
   -- a refusal of the check is Plan's
   pub refused_before : {o : Outcome} {r : Refusal} → o ≡ plan_before s helpers q gammas rows thetas → o ≡ Refused r → PlanAllows s helpers q gammas rows thetas o thetas

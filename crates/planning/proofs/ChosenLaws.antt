@@ -34,20 +34,20 @@ module _ (count m : ℕ) (row : Matrix) (c : Chosen) (chosen : WholeChoice count
   abbrev is_taken : ℕ → Bool
   is_taken = taken _ _ _ _ c chosen
 
-  listed-byte : (j i : ℕ) → j < c.count → listed_rows row c j i < 256
-  listed-byte j i h = low _ i
+  listed_byte : (j i : ℕ) → j < c.count → listed_rows row c j i < 256
+  listed_byte j i h = low _ i
 
   full : rank ≡ c.count
-  full = ranked c.count m rank (listed_rows row c) t listed-byte reduced chosen.choice.independent
+  full = ranked c.count m rank (listed_rows row c) t listed_byte reduced chosen.choice.independent
 
   -- a combination past the rows taken is orthogonal to every row
   past_all : (i : ℕ) → c.count ≤ i → i < m → (j : ℕ) → j < count → product m (row j) (t i) ≡ 0
   past_all i h l j b =
-      candidates_zero _ _ _ _ c chosen (omega arith) (t i) (λ k. past c.count m rank (listed_rows row c) t listed-byte reduced full i k h l) j b refl
+      candidates_zero _ _ _ _ c chosen (omega arith) (t i) (λ k. past c.count m rank (listed_rows row c) t listed_byte reduced full i k h l) j b refl
 
   -- the combination by which block j gets its thetas
-  row-for : (j e : ℕ) → row_for c.count (at c.numbers) t j e ≡ pick (is_taken j) (t (how_many j is_taken) e) 0
-  row-for j e = go (is_taken j) refl
+  row_for_lem : (j e : ℕ) → row_for c.count (at c.numbers) t j e ≡ pick (is_taken j) (t (how_many j is_taken) e) 0
+  row_for_lem j e = go (is_taken j) refl
     where
       go : (b : Bool) → is_taken j ≡ b → row_for c.count (at c.numbers) t j e ≡ pick b (t (how_many j is_taken) e) 0
       go true q =
@@ -62,28 +62,28 @@ module _ (count m : ℕ) (row : Matrix) (c : Chosen) (chosen : WholeChoice count
     abbrev theta : ℕ → ℕ
     theta j = product m w (row_for c.count (at c.numbers) t j)
 
-    theta-is : (j : ℕ) → theta j ≡ pick (is_taken j) (product m w (t (how_many j is_taken))) 0
+    theta_is : (j : ℕ) → theta j ≡ pick (is_taken j) (product m w (t (how_many j is_taken))) 0
     unfolding product
-    theta-is j = product_keys m w _ _ (λ e l. row-for j e) ∙ go (is_taken j)
+    theta_is j = product_keys m w _ _ (λ e l. row_for_lem j e) ∙ go (is_taken j)
       where
         go : (b : Bool) → product m w (λ e. pick b (t (how_many j is_taken) e) 0) ≡ pick b (product m w (t (how_many j is_taken))) 0
         go true = refl
         go false = sum_zero m _ (λ e l. times_zero (w e))
 
-    theta-gives : (i : ℕ) → i < m → mixed count theta row i ≡ w i
+    theta_gives : (i : ℕ) → i < m → mixed count theta row i ≡ w i
     unfolding mixed
-    theta-gives i l =
-        sum_same count _ (λ j. times (product m w (t (how_many j is_taken))) (only is_taken row j i)) (λ j b. ap (λ (x : ℕ). times x (row j i)) (theta-is j) ∙ go (is_taken j) j)
+    theta_gives i l =
+        sum_same count _ (λ j. times (product m w (t (how_many j is_taken))) (only is_taken row j i)) (λ j b. ap (λ (x : ℕ). times x (row j i)) (theta_is j) ∙ go (is_taken j) j)
         ∙ spread is_taken (at c.numbers) row (λ k. product m w (t k)) i count (λ j b. taken_listed _ _ _ _ c chosen j)
         ∙ ap (λ (n : ℕ). mixed n (λ k. product m w (t k)) (listed_rows row c) i) (counted_all _ _ _ _ c chosen)
-        ∙ reached c.count m rank (listed_rows row c) t listed-byte reduced full w bytes unseen i l
+        ∙ reached c.count m rank (listed_rows row c) t listed_byte reduced full w bytes unseen i l
       where
         go : (b : Bool) (j : ℕ) → times (pick b (product m w (t (how_many j is_taken))) 0) (row j i) ≡ times (product m w (t (how_many j is_taken))) (pick b (row j i) 0)
         go true j = refl
         go false j = zero_times (row j i) ∙ sym (times_zero _)
 
-    theta-unused : (j : ℕ) → j < count → Spanned j m row (row j) → theta j ≡ 0
-    theta-unused j l s = theta-is j ∙ go (is_taken j) refl
+    theta_unused : (j : ℕ) → j < count → Spanned j m row (row j) → theta j ≡ 0
+    theta_unused j l s = theta_is j ∙ go (is_taken j) refl
       where
         go : (b : Bool) → is_taken j ≡ b → pick b (product m w (t (how_many j is_taken))) 0 ≡ 0
         go true q =
@@ -113,22 +113,22 @@ module _ (z : Sizes) (count : ℕ) (row wanted : Matrix) (c : Chosen) (chosen : 
       → ((k i : ℕ) → k < z.places → c.count ≤ i → i < z.m → product z.m (wanted k) (t i) ≡ 0)
       → thetas ≡ grid count z.places 0 (λ j k. product z.m (wanted k) (row_for c.count (at c.numbers) t j)) lent
       → Planned z count row wanted thetas
-  planned lent some long bytes unseen written = rw (written ∙ grid_all count z.places theta-of lent long) made
+  planned lent some long bytes unseen written = rw (written ∙ grid_all count z.places theta_of lent long) made
     where
-      theta-of : ℕ → ℕ → ℕ
-      theta-of j k = product z.m (wanted k) (row_for c.count (at c.numbers) t j)
+      theta_of : ℕ → ℕ → ℕ
+      theta_of j k = product z.m (wanted k) (row_for c.count (at c.numbers) t j)
 
-      made : Planned z count row wanted (flat count z.places theta-of)
+      made : Planned z count row wanted (flat count z.places theta_of)
       made =
           record {
-            size = length_flat count z.places theta-of;
+            size = length_flat count z.places theta_of;
             bytes = λ i h.
-                flat_every (λ x. x < 256) count z.places theta-of some (λ j k. product_lt z.m _ _) i
-                (omega (arith, h, length_flat count z.places theta-of));
+                flat_every (λ x. x < 256) count z.places theta_of some (λ j k. product_lt z.m _ _) i
+                (omega (arith, h, length_flat count z.places theta_of));
             gives = λ k i h l.
-                mixed_same count _ (λ j. theta-of j k) row i (λ j b. flat_at count z.places theta-of j k b h)
-                ∙ theta-gives count z.m row c chosen t rank reduced low (wanted k) (λ e b. bytes k e h b) (λ e. unseen k e h) i l;
+                mixed_same count _ (λ j. theta_of j k) row i (λ j b. flat_at count z.places theta_of j k b h)
+                ∙ theta_gives count z.m row c chosen t rank reduced low (wanted k) (λ e b. bytes k e h b) (λ e. unseen k e h) i l;
             unused = λ j l s k h.
-                flat_at count z.places theta-of j k l h
-                ∙ theta-unused count z.m row c chosen t rank reduced low (wanted k) (λ e b. bytes k e h b) (λ e. unseen k e h) j l s;
+                flat_at count z.places theta_of j k l h
+                ∙ theta_unused count z.m row c chosen t rank reduced low (wanted k) (λ e b. bytes k e h b) (λ e. unseen k e h) j l s;
           }

@@ -74,13 +74,13 @@ module _ (g : Given) (F : Fit (setting g)) (K : Keys g) (t : Table) (h : Honest 
 
   -- ---- the challenge
 
-  challenge-is : challenge_of (message g t A h) ≡ h.c
-  challenge-is =
+  challenge_is : challenge_of (message g t A h) ≡ h.c
+  challenge_is =
       rw (asked_bytes h.c h.lent h.asked)
       (challenge_back h.c (in_rule h.c (asked_rule h.c h.lent h.asked)) (asked_even h.c h.lent h.asked) h.coefficients_bytes)
 
-  challenge-good : malformed_challenge (message g t A h) ≡ false
-  challenge-good =
+  challenge_good : malformed_challenge (message g t A h) ≡ false
+  challenge_good =
       rw (asked_bytes h.c h.lent h.asked)
       (well_formed h.c (in_rule h.c (asked_rule h.c h.lent h.asked)) (asked_even h.c h.lent h.asked) h.coefficients_bytes
       (asked_rule h.c h.lent h.asked))
@@ -95,8 +95,8 @@ module _ (g : Given) (F : Fit (setting g)) (K : Keys g) (t : Table) (h : Honest 
   proves =
       rw (
         image_good (setting g) F t,
-        challenge-good,
-        challenge-is,
+        challenge_good,
+        challenge_is,
         image_sizes (setting g) F t,
         eq-eqb (length g.mask_key) 32 K.mask_size,
         eq-eqb (length (given_auxiliary g)) (auxiliary_length n tags) elements_length,
@@ -118,28 +118,28 @@ module _ (g : Given) (F : Fit (setting g)) (K : Keys g) (t : Table) (h : Honest 
       ∙ mixed_mixed count g.z.m (at h.c.coefficients) (λ j. element (t h.c.node (at h.c.places j))) _ e
       ∙ sym (tags_combine (block_length g.z) g.z.m row (source g.z g.file g.padding) (vector (setting g)) e)
 
-  named-block : (e : ℕ) → e < block_length g.z → named_byte g.z A h.c e ≡ block e
+  named_block_lem : (e : ℕ) → e < block_length g.z → named_byte g.z A h.c e ≡ block e
   unfolding with_tags
-  named-block e l = named e (omega arith) ∙ rw (lt-ltb e (block_length g.z) l)
+  named_block_lem e l = named e (omega arith) ∙ rw (lt-ltb e (block_length g.z) l)
 
-  named-tag : (s : ℕ) → s < tags → named_byte g.z A h.c (block_length g.z + s) ≡ product (block_length g.z) block (vector (setting g) s)
+  named_tag : (s : ℕ) → s < tags → named_byte g.z A h.c (block_length g.z + s) ≡ product (block_length g.z) block (vector (setting g) s)
   unfolding with_tags
-  named-tag s l =
+  named_tag s l =
       let q : block_length g.z + s - block_length g.z ≡ s = omega arith in
       named (block_length g.z + s) (omega arith) ∙ rw (le-ltb (block_length g.z + s) (block_length g.z) (omega arith), q)
 
   sends : sent g t A h ≡ expected g t A h
   unfolding prove_out afterwards proved_for response_for
   sends =
-      rw (proves, challenge-is, image_sizes (setting g) F t, image_id (setting g) F t)
-      (response_same n tags h.c.node _ _ _ _ _ h.seed _ F.ranged.n_low (λ i l. named-block i (omega arith)) named-tag)
+      rw (proves, challenge_is, image_sizes (setting g) F t, image_id (setting g) F t)
+      (response_same n tags h.c.node _ _ _ _ _ h.seed _ F.ranged.n_low (λ i l. named_block_lem i (omega arith)) named_tag)
 
   -- ---- Verdict
 
   -- the rows that the auditor hands over, combined, are the table's
-  row-given : (i : ℕ) → i < g.z.m → given_row g.z (node_rows g t A h) h.c i ≡ row i
+  row_given : (i : ℕ) → i < g.z.m → given_row g.z (node_rows g t A h) h.c i ≡ row i
   unfolding given_row
-  row-given i l =
+  row_given i l =
       mixed_vectors count (at h.c.coefficients) _ _ i (λ j lj. flat_at g.z.places g.z.m _ (at h.c.places j) i (h.places_there j lj) l)
 
   abbrev total : ℕ → ℕ
@@ -158,42 +158,42 @@ module _ (g : Given) (F : Fit (setting g)) (K : Keys g) (t : Table) (h : Honest 
       (λ (a : n ≤ e).
       let q : e ≡ n + (e - n) = omega arith in
       rw (le-ltb e n a, le-ltb e (n - 2) (omega arith), xor_zero_r (block e))
-      (row-given (e - n) (omega arith)
+      (row_given (e - n) (omega arith)
       ∙ sym (ap block q ∙ coded_row g.z g.file g.padding row (e - n) (omega arith) (mixed_lt count _ _ (e - n)))))
       (order e n)
 
-  expected-tag : (s : ℕ) → s < tags → tag_in n tags (expected g t A h) s ≡ tagged s
+  expected_tag : (s : ℕ) → s < tags → tag_in n tags (expected g t A h) s ≡ tagged s
   unfolding response_for
-  expected-tag = response_tag n tags h.c.node block tagged hidden h.seed total F.ranged.n_low h.seed_size
+  expected_tag = response_tag n tags h.c.node block tagged hidden h.seed total F.ranged.n_low h.seed_size
 
-  expected-sum : (s : ℕ) → s < tags → sum_in n (expected g t A h) s ≡ total s
+  expected_sum : (s : ℕ) → s < tags → sum_in n (expected g t A h) s ≡ total s
   unfolding response_for
-  expected-sum = response_sum n tags h.c.node block tagged hidden h.seed total F.ranged.n_low h.seed_size
+  expected_sum = response_sum n tags h.c.node block tagged hidden h.seed total F.ranged.n_low h.seed_size
 
-  total-is : (s : ℕ) → s < tags → product (n - 2) hidden (vector (setting g) s) ≡ total s
-  total-is s l =
+  total_is : (s : ℕ) → s < tags → product (n - 2) hidden (vector (setting g) s) ≡ total s
+  total_is s l =
       sym (ap (λ (x : List ℕ). mask_sum n (mask_coefficient g.mask_key h.seed) x s) K.auxiliary_are ∙ mask_sum_lem n tags _ (vector (setting g)) _ s l)
 
   abbrev judged : List ℕ → Bool
   judged response = accepts g.z (key_vector g.tag_key g.id) (given_row g.z (node_rows g t A h) h.c) response
 
-  accepted-it : judged (expected g t A h) ≡ true
-  accepted-it =
+  accepted_it : judged (expected g t A h) ≡ true
+  accepted_it =
       (accepts_all g.z (key_vector g.tag_key g.id) (given_row g.z (node_rows g t A h) h.c) (expected g t A h)).1 (λ s l.
       product_same (block_length g.z) _ _ (vector (setting g) s) whole
       ∙ product_left (block_length g.z) block _ (vector (setting g) s)
-      ∙ ap₂ plus (sym (expected-tag s l))
-      (product_cut (n - 2) (block_length g.z) hidden (vector (setting g) s) (omega arith) ∙ total-is s l ∙ sym (expected-sum s l)))
+      ∙ ap₂ plus (sym (expected_tag s l))
+      (product_cut (n - 2) (block_length g.z) hidden (vector (setting g) s) (omega arith) ∙ total_is s l ∙ sym (expected_sum s l)))
 
   -- whether Verdict finds that nothing is proved
   abbrev nothing : Bool
   nothing = all_zero g.z.m (given_row g.z (node_rows g t A h) h.c)
 
-  telling-is : Telling g t A h → nothing ≡ false
-  telling-is told = zero_not g.z.m _ told.one told.one_there (λ e. told.one_not (sym (row-given told.one told.one_there) ∙ e))
+  telling_is : Telling g t A h → nothing ≡ false
+  telling_is told = zero_not g.z.m _ told.one told.one_there (λ e. told.one_not (sym (row_given told.one told.one_there) ∙ e))
 
-  silent-is : Silent g t A h → nothing ≡ true
-  silent-is zero = zero_all g.z.m _ (λ i l. row-given i l ∙ zero i l)
+  silent_is : Silent g t A h → nothing ≡ true
+  silent_is zero = zero_all g.z.m _ (λ i l. row_given i l ∙ zero i l)
 
   -- a response of Prove's length and first byte is refused for nothing else
   heard : {z : Bool} → nothing ≡ z → (response : List ℕ) → length response ≡ response_length n tags → at response 0 ≡ at (response_head h.c.node) 0
@@ -201,8 +201,8 @@ module _ (g : Given) (F : Fit (setting g)) (K : Keys g) (t : Table) (h : Honest 
   unfolding verdict_of verdict_for refuse any_of judgement
   heard found response l b =
       rw (
-        challenge-good,
-        challenge-is,
+        challenge_good,
+        challenge_is,
         not_sizes_outside g.z F.ranged,
         eq-eqb (length g.tag_key) 32 K.tag_size,
         eq-eqb (length g.id) 8 F.id_size,
@@ -214,45 +214,45 @@ module _ (g : Given) (F : Fit (setting g)) (K : Keys g) (t : Table) (h : Honest 
         found,
       )
 
-  expected-length : length (expected g t A h) ≡ response_length n tags
+  expected_length : length (expected g t A h) ≡ response_length n tags
   unfolding response_for
-  expected-length = response_length_lem n tags h.c.node block tagged hidden h.seed total F.ranged.n_low h.seed_size
+  expected_length = response_length_lem n tags h.c.node block tagged hidden h.seed total F.ranged.n_low h.seed_size
 
-  expected-first : at (expected g t A h) 0 ≡ at (response_head h.c.node) 0
+  expected_first : at (expected g t A h) 0 ≡ at (response_head h.c.node) 0
   unfolding response_for
-  expected-first = response_first n tags h.c.node block tagged hidden h.seed total F.ranged.n_low h.seed_size
+  expected_first = response_first n tags h.c.node block tagged hidden h.seed total F.ranged.n_low h.seed_size
 
   pub audit_holds : AuditHolds g t A h
   audit_holds =
       record {
         proves = proves;
         sends = sends;
-        accepts = λ told. rw sends (heard (telling-is told) (expected g t A h) expected-length expected-first ∙ ap (λ (x : Bool). pick x Accepted Rejected) accepted-it);
+        accepts = λ told. rw sends (heard (telling_is told) (expected g t A h) expected_length expected_first ∙ ap (λ (x : Bool). pick x Accepted Rejected) accepted_it);
       }
 
-  sent-length : length (sent g t A h) ≡ response_length n tags
-  sent-length = ap length sends ∙ expected-length
+  sent_length : length (sent g t A h) ≡ response_length n tags
+  sent_length = ap length sends ∙ expected_length
 
-  sent-first : at (sent g t A h) 0 ≡ at (response_head h.c.node) 0
-  sent-first = ap (λ (r : List ℕ). at r 0) sends ∙ expected-first
+  sent_first : at (sent g t A h) 0 ≡ at (response_head h.c.node) 0
+  sent_first = ap (λ (r : List ℕ). at r 0) sends ∙ expected_first
 
   pub unproved_holds : Silent g t A h → (other : List ℕ) → length other ≡ length (sent g t A h) → at other 0 ≡ at (sent g t A h) 0
       → says g t A h other ≡ Refused ProvesNothing
-  unproved_holds zero other l b = heard (silent-is zero) other (l ∙ sent-length) (b ∙ sent-first)
+  unproved_holds zero other l b = heard (silent_is zero) other (l ∙ sent_length) (b ∙ sent_first)
 
   pub altered_holds : Telling g t A h → (other : List ℕ) → length other ≡ length (sent g t A h) → at other 0 ≡ at (sent g t A h) 0
       → ((says g t A h other ≡ Accepted) ↔ ChangesAddUp g t A h other) × ((says g t A h other ≡ Rejected) ↔ (¬ ChangesAddUp g t A h other))
   altered_holds told other l b =
-      let w = altered g.z (key_vector g.tag_key g.id) (given_row g.z (node_rows g t A h) h.c) other (sent g t A h) (ap judged sends ∙ accepted-it) in
-      rw (heard (telling-is told) other (l ∙ sent-length) (b ∙ sent-first)) (
-        (λ e. w.0.0 (is-accepted _ e), λ d. ap (λ (x : Bool). pick x Accepted Rejected) (w.0.1 d)),
-        (λ e. w.1.0 (is-rejected _ e), λ d. ap (λ (x : Bool). pick x Accepted Rejected) (w.1.1 d)),
+      let w = altered g.z (key_vector g.tag_key g.id) (given_row g.z (node_rows g t A h) h.c) other (sent g t A h) (ap judged sends ∙ accepted_it) in
+      rw (heard (telling_is told) other (l ∙ sent_length) (b ∙ sent_first)) (
+        (λ e. w.0.0 (is_accepted _ e), λ d. ap (λ (x : Bool). pick x Accepted Rejected) (w.0.1 d)),
+        (λ e. w.1.0 (is_rejected _ e), λ d. ap (λ (x : Bool). pick x Accepted Rejected) (w.1.1 d)),
       )
     where
-      is-accepted : (x : Bool) → pick x Accepted Rejected ≡ Accepted → x ≡ true
-      is-accepted true e = refl
-      is-accepted false e = cc
+      is_accepted : (x : Bool) → pick x Accepted Rejected ≡ Accepted → x ≡ true
+      is_accepted true e = refl
+      is_accepted false e = cc
 
-      is-rejected : (x : Bool) → pick x Accepted Rejected ≡ Rejected → x ≡ false
-      is-rejected true e = cc
-      is-rejected false e = refl
+      is_rejected : (x : Bool) → pick x Accepted Rejected ≡ Rejected → x ≡ false
+      is_rejected true e = cc
+      is_rejected false e = refl

@@ -62,8 +62,8 @@ module _ (g : Given) (t : Table) (node place : ℕ) (row : List ℕ) (h : node <
       tab_at g.z.m _ i k ∙ image_byte (setting g) F t node place (g.z.n + i) h hp (omega arith)
       ∙ ap (λ (x : Place). place_record (setting g) x (g.z.n + i)) e ∙ record_row (setting g) F t (filled row) f i k)
 
-  coded-back : HoldsCoded g (image (setting g) t) (place_number g.z node place) row
-  coded-back =
+  coded_back : HoldsCoded g (image (setting g) t) (place_number g.z node place) row
+  coded_back =
       record {
         block = λ a l. image_byte (setting g) F t node place a h hp (omega arith) ∙ ap (λ (x : Place). place_record (setting g) x a) e
             ∙ record_block (setting g) F t (filled row) a l;
@@ -81,7 +81,7 @@ on_image g calls t fine answers =
       marks = image_mark (setting g) (fits g) t;
       rows = λ node place row h hp e. row_back g t node place row h hp e (subst (Fine g.z) e (fine node place));
       inventory = inventory (setting g) (fits g) t fine;
-      places = coded-back g t;
+      places = coded_back g t;
       audits = audit_holds g (fits g) (keys g) t;
       altered = altered_holds g (fits g) (keys g) t;
       unproved = unproved_holds g (fits g) (keys g) t;

@@ -88,8 +88,8 @@ module _ (g : Given) (t : Table) (fine : AllFine g.z t) where
     abbrev place : ℕ
     place = k % z.places
 
-    still-empty : u node place ≡ empty
-    still-empty = sym (numbered_below z R u k h) ∙ w.rest k (omega arith)
+    still_empty : u node place ≡ empty
+    still_empty = sym (numbered_below z R u k h) ∙ w.rest k (omega arith)
 
     module _ (row : List ℕ) (held : t node place ≡ filled row) where
       abbrev call : Call
@@ -98,9 +98,9 @@ module _ (g : Given) (t : Table) (fine : AllFine g.z t) where
       row_fine : Fine z (filled row)
       row_fine = subst (Fine z) held (fine node place)
 
-      call-done : table_answer z u call ≡ Done
+      call_done : table_answer z u call ≡ Done
       unfolding answer_for refuse any_of
-      call-done =
+      call_done =
           rw (
             eq-eqb _ _ g.file_size,
             eq-eqb _ _ g.padding_size,
@@ -108,18 +108,18 @@ module _ (g : Given) (t : Table) (fine : AllFine g.z t) where
             eq-eqb _ _ row_fine.0,
             lt-leb z.nodes node (node_of z R k h),
             lt-leb z.places place (place_of z R k),
-            still-empty,
+            still_empty,
           )
 
       -- the table after the call, by number
       after_is : (j : ℕ) → numbered z (table_after z u call) j ≡ over k 1 (λ _. filled row) (numbered z u) j
       after_is j =
-          ap (λ (v : Table). numbered z v j) (after_done _ _ call-done)
+          ap (λ (v : Table). numbered z v j) (after_done _ _ call_done)
           ∙ numbered_written z R node place 1 (λ _. filled row) u (node_of z R k h) (omega (arith, place_of z R k)) j
           ∙ ap (λ (x : ℕ). over x 1 (λ _. filled row) (numbered z u) j) (div-add-mod' k z.places)
 
-      after-so-far : SoFar (k + 1) (table_after z u call)
-      after-so-far =
+      after_so_far : SoFar (k + 1) (table_after z u call)
+      after_so_far =
           record {
             below = λ j l.
                 ⊎_elim
@@ -132,9 +132,9 @@ module _ (g : Given) (t : Table) (fine : AllFine g.z t) where
           }
 
     -- the calls for place number k and those behind it
-    fill-place : (calls : List Call) → ((v : Table) → SoFar (k + 1) v → Fills v calls) → (held : Place) → t node place ≡ held
+    fill_place : (calls : List Call) → ((v : Table) → SoFar (k + 1) v → Fills v calls) → (held : Place) → t node place ≡ held
         → Fills u (encode_first (setting g) node place held calls)
-    fill-place calls behind empty e =
+    fill_place calls behind empty e =
         behind u
         (record {
           below = λ j l.
@@ -144,16 +144,16 @@ module _ (g : Given) (t : Table) (fine : AllFine g.z t) where
               (order j k);
           rest = λ j l. w.rest j (omega arith);
         })
-    fill-place calls behind (filled row) e =
-        let after = behind (table_after z u (call row e)) (after-so-far row e) in
+    fill_place calls behind (filled row) e =
+        let after = behind (table_after z u (call row e)) (after_so_far row e) in
         record {
           admitted = (λ _. (refl, refl, refl, (row_fine row e).1), after.admitted);
-          answers = ap₂ ◌∷◌ (call-done row e) after.answers;
+          answers = ap₂ ◌∷◌ (call_done row e) after.answers;
           ends = after.ends;
         }
 
-  fill-from : (count k : ℕ) (u : Table) → k + count ≡ place_count z → SoFar k u → Fills u (fresh_from (setting g) t k count)
-  fill-from zero k u e w =
+  fill_from : (count k : ℕ) (u : Table) → k + count ≡ place_count z → SoFar k u → Fills u (fresh_from (setting g) t k count)
+  fill_from zero k u e w =
       record {
         admitted = tt;
         answers = refl;
@@ -161,26 +161,26 @@ module _ (g : Given) (t : Table) (fine : AllFine g.z t) where
             sym (numbered_at z R u node place h hp) ∙ w.below (place_number z node place) (omega (arith, number_low z R node place h hp))
             ∙ numbered_at z R t node place h hp;
       }
-  fill-from (suc count) k u e w =
-      fill-place k (omega arith) u w _ (λ v. fill-from count (k + 1) v (omega arith)) (t (k / z.places) (k % z.places)) refl
+  fill_from (suc count) k u e w =
+      fill_place k (omega arith) u w _ (λ v. fill_from count (k + 1) v (omega arith)) (t (k / z.places) (k % z.places)) refl
 
-  fill-all : Fills all_empty (fresh_calls (setting g) t)
-  fill-all =
-      fill-from (place_count z) 0 all_empty (omega arith)
+  fill_all : Fills all_empty (fresh_calls (setting g) t)
+  fill_all =
+      fill_from (place_count z) 0 all_empty (omega arith)
       (record { below = λ j l. absurd (omega arith); rest = λ j l. numbered_empty z j })
 
 -- ---- the claim
 
 -- the Encodes of any table's rows are admitted
 pub fresh_admitted : (g : Given) (t : Table) → AllFine g.z t → Admitted g all_empty (fresh_calls (setting g) t)
-fresh_admitted g t fine = (fill-all g t fine).admitted
+fresh_admitted g t fine = (fill_all g t fine).admitted
 
 -- a new archive with the rows of any table encoded: every Encode is done, and it is the table's image
 pub encoded_is : (g : Given) (t : Table) → AllFine g.z t → (lent : List ℕ) → length lent ≡ archive_length g.z
     → (archive_answers (new_archive g lent) (fresh_calls (setting g) t) ≡ all_done (fresh_calls (setting g) t))
     × (archive_run (new_archive g lent) (fresh_calls (setting g) t) ≡ image (setting g) t)
 encoded_is g t fine lent long =
-    let w = fill-all g t fine in
+    let w = fill_all g t fine in
     let made = from_new g lent (reopens g lent long) (fresh_calls (setting g) t) w.admitted in
     (made.0 ∙ w.answers, made.1 ∙ image_same (setting g) (fits g) _ t w.ends)
 

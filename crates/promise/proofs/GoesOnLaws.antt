@@ -33,18 +33,18 @@ module _ (g : Given) where
 
   -- ---- to follow a table is to be its image
 
-  rows-fine : (t : Table) (archive : List ℕ) → Follows o t archive → AllFine z t
-  rows-fine t archive w node place = go (t node place) refl
+  rows_fine : (t : Table) (archive : List ℕ) → Follows o t archive → AllFine z t
+  rows_fine t archive w node place = go (t node place) refl
     where
       go : (x : Place) → t node place ≡ x → Fine z x
       go empty e = tt
       go (filled row) e = w.rows node place row e
 
-  is-image : (t : Table) (archive : List ℕ) → Follows o t archive → archive ≡ image o t
-  is-image t archive w = w.bytes g.lent (lent_length g) ∙ (encoded_is g t (rows-fine t archive w) g.lent (lent_length g)).1
+  is_image : (t : Table) (archive : List ℕ) → Follows o t archive → archive ≡ image o t
+  is_image t archive w = w.bytes g.lent (lent_length g) ∙ (encoded_is g t (rows_fine t archive w) g.lent (lent_length g)).1
 
-  image-follows : (t : Table) → AllFine z t → Follows o t (image o t)
-  image-follows t fine =
+  image_follows : (t : Table) → AllFine z t → Follows o t (image o t)
+  image_follows t fine =
       record {
         rows = λ node place row e. subst (Fine z) e (fine node place);
         bytes = λ lent long. sym (encoded_is g t fine lent long).1;
@@ -71,50 +71,50 @@ module _ (g : Given) where
         )
         (shown (t node place) i)
 
-    rows-done : (out : List ℕ) → length out ≡ z.places * z.m → rows_answer s node out ≡ Done
+    rows_done : (out : List ℕ) → length out ≡ z.places * z.m → rows_answer s node out ≡ Done
     unfolding rows_answer
-    rows-done out long =
+    rows_done out long =
         passed _ _ (image_good o (fits g) t)
         ∙ rw (image_sizes o (fits g) t) (passed _ _ (differs_same long) ∙ passed _ _ (lt-leb z.nodes node there))
 
     rows_told : (out : List ℕ) → length out ≡ z.places * z.m → rows_out s node out ≡ flat z.places z.m (λ place. element (t node place))
     unfolding rows_out
     rows_told out long =
-        after_done _ _ (rows-done out long) ∙ rw (image_sizes o (fits g) t) (flat_same z.places z.m _ _ (λ place i h hi. row_told place i h hi))
+        after_done _ _ (rows_done out long) ∙ rw (image_sizes o (fits g) t) (flat_same z.places z.m _ _ (λ place i h hi. row_told place i h hi))
 
   -- ---- from an image
 
-  gathered-fine : (t u : Table) (node : ℕ) → AllFine z t → AllFine z u → AllFine z (table_gathered z t u node)
+  gathered_fine : (t u : Table) (node : ℕ) → AllFine z t → AllFine z u → AllFine z (table_gathered z t u node)
   unfolding afterwards
-  gathered-fine t u node ft fu = go (table_gather z t node)
+  gathered_fine t u node ft fu = go (table_gather z t node)
     where
       go : (a : Outcome) → AllFine z (afterwards a t (written node 0 z.places (u node) t))
       go Done = written_fine z node 0 z.places (u node) t (fu node) ft
       go (Refused r) = ft
 
-  image-goes-on : (t : Table) → AllFine z t → GoesOn g t (image o t)
+  image_goes_on : (t : Table) → AllFine z t → GoesOn g t (image o t)
   unfolding sizes_answer
-  image-goes-on t fine =
+  image_goes_on t fine =
       record {
         demand = on_image g (fresh_calls o t) t fine (from_new g g.lent g.open_done (fresh_calls o t) (fresh_admitted g t fine)).0;
         calls = λ calls a.
             let w = runs g (fits g) t calls a in
-            (w.0, subst (Follows o (table_run z t calls)) (sym w.1) (image-follows (table_run z t calls) (run_fine g t fine calls a)));
+            (w.0, subst (Follows o (table_run z t calls)) (sym w.1) (image_follows (table_run z t calls) (run_fine g t fine calls a)));
         gathers = λ u share node follows.
             let w = gathers g (fits g) t u node in
-            rw (is-image u share follows) (
+            rw (is_image u share follows) (
               w.0,
               subst (Follows o (table_gathered z t u node)) (sym w.1)
-                  (image-follows (table_gathered z t u node) (gathered-fine t u node fine (rows-fine u share follows))),
+                  (image_follows (table_gathered z t u node) (gathered_fine t u node fine (rows_fine u share follows))),
             );
         sizes = (passed _ _ (image_good o (fits g) t), image_layout o (fits g) t, image_sizes o (fits g) t);
-        rows = λ node out there long. (rows-done t fine node there out long, rows_told t fine node there out long);
+        rows = λ node out there long. (rows_done t fine node there out long, rows_told t fine node there out long);
       }
 
 pub demand3_goes_on : Demand3GoesOn
 demand3_goes_on g = (
   λ calls a.
       subst (Follows (setting g) (table_run g.z all_empty calls)) (sym (run_is g calls a))
-      (image-follows g (table_run g.z all_empty calls) (run_fine g all_empty (λ node place. tt) calls a)),
-  λ t archive w. subst (GoesOn g t) (sym (is-image g t archive w)) (image-goes-on g t (rows-fine g t archive w)),
+      (image_follows g (table_run g.z all_empty calls) (run_fine g all_empty (λ node place. tt) calls a)),
+  λ t archive w. subst (GoesOn g t) (sym (is_image g t archive w)) (image_goes_on g t (rows_fine g t archive w)),
 )

@@ -114,24 +114,24 @@ module _ (s : Setting) (F : Fit s) (t : Table) where
   record_mixed (filled row) e = tags_combine (block_length s.z) s.z.m (at row) (source s.z s.file s.padding) (vector s) e
 
   module _ (helpers : List ℕ) (q : ℕ) (gammas thetas : List ℕ) (there : (i : ℕ) → i < length helpers → at helpers i < s.z.nodes) where
-    repair-same : (k : ℕ) (x y : ℕ → ℕ → ℕ) → ((node l : ℕ) → node < s.z.nodes → l < s.z.places → x node l ≡ y node l)
+    repair_same : (k : ℕ) (x y : ℕ → ℕ → ℕ) → ((node l : ℕ) → node < s.z.nodes → l < s.z.places → x node l ≡ y node l)
         → repair_sum s.z helpers q gammas thetas k x ≡ repair_sum s.z helpers q gammas thetas k y
-    repair-same k x y h =
+    repair_same k x y h =
         sum_same (length helpers) _ _ (λ i hi. sum_same q _ _ (λ j hj.
         ap (times _) (sum_same s.z.places _ _ (λ l hl.
         ap (times _) (h (at helpers i) l (there i hi) hl)))))
 
-    repair-mixed : (k e : ℕ) (r : ℕ → ℕ → ℕ → ℕ)
+    repair_mixed : (k e : ℕ) (r : ℕ → ℕ → ℕ → ℕ)
         → repair_sum s.z helpers q gammas thetas k (λ node l. mixed s.z.m (r node l) tagged e)
         ≡ mixed s.z.m (λ i. repair_sum s.z helpers q gammas thetas k (λ node l. r node l i)) tagged e
-    repair-mixed k e r = simp (mixed_scale, mixed_sum)
+    repair_mixed k e r = simp (mixed_scale, mixed_sum)
 
     pub image_repaired : (k e : ℕ) → e < record_length s.z
         → target_byte s.z (image s t) helpers q gammas thetas k e ≡ place_record s (filled (repaired_row s.z t helpers q gammas thetas k)) e
     unfolding target_byte repair_byte mixed repaired_row
     image_repaired k e he =
-        repair-same k _ _ (λ node l hb hl. image_byte node l e hb hl he ∙ record_mixed (t node l) e)
-        ∙ repair-mixed k e (λ node l. element (t node l))
+        repair_same k _ _ (λ node l hb hl. image_byte node l e hb hl he ∙ record_mixed (t node l) e)
+        ∙ repair_mixed k e (λ node l. element (t node l))
         ∙ mixed_same s.z.m _ _ tagged e (λ i hi. sym (tab_at s.z.m _ i hi))
         ∙ sym (record_mixed (filled (repaired_row s.z t helpers q gammas thetas k)) e)
 
@@ -170,10 +170,10 @@ module _ (s : Setting) (vectors : ℕ → ℕ → ℕ) (same : (k e : ℕ) → k
   record_over empty p = 0
   record_over (filled row) p = coded_record s.z vectors s.file s.padding (at row) p
 
-  record-over : (x : Place) (p : ℕ) → p < record_length s.z → place_record s x p ≡ record_over x p
+  record_over_lem : (x : Place) (p : ℕ) → p < record_length s.z → place_record s x p ≡ record_over x p
   unfolding coded_record with_tags
-  record-over empty p h = refl
-  record-over (filled row) p h =
+  record_over_lem empty p h = refl
+  record_over_lem (filled row) p h =
       ⊎_elim
       (λ (l : p < block_length s.z). rw (lt-ltb p (block_length s.z) l))
       (λ (l : block_length s.z ≤ p).
@@ -184,7 +184,7 @@ module _ (s : Setting) (vectors : ℕ → ℕ → ℕ) (same : (k e : ℕ) → k
   pub image_over : (t : Table)
       → image s t ≡ archive_of s.layout s.z s.id (λ k. is_filled (numbered s.z t k)) (λ k. record_over (numbered s.z t k))
   unfolding image
-  image_over t = archive_same s.layout s.z s.id _ _ _ _ (λ k h. refl) (λ k p h hp. record-over (numbered s.z t k) p hp)
+  image_over t = archive_same s.layout s.z s.id _ _ _ _ (λ k h. refl) (λ k p h hp. record_over_lem (numbered s.z t k) p hp)
 
 -- ---- the image of the empty table is what Open writes
 

@@ -153,9 +153,9 @@ module _ (w : Numbers) (o : Opens w) (u : SetsUp w) where
   abbrev pub lives : Given
   lives = L.given w.layout w.tags o u (bytes_each (0x57 ∷ 0x01 ∷ []) (omega arith, (omega arith, tt)))
 
-  life-admitted : Admitted lives all_empty (calls w.tags)
+  life_admitted : Admitted lives all_empty (calls w.tags)
   unfolding answer_for refuse any_of any_below outside afterwards written over
-  life-admitted = (
+  life_admitted = (
     λ e. (refl, refl, refl, bytes_each (0x01 ∷ 0x00 ∷ []) (omega arith, (omega arith, tt))),
     (
       λ e. let x : ◌≡◌ {A = ℕ} 0 1 = cc in absurd (omega arith),
@@ -204,10 +204,10 @@ module _ (w : Numbers) (o : Opens w) (u : SetsUp w) where
   abbrev audited_silent : Filled w → Honest lives (table w.tags)
   audited_silent f = audit_by asking_nothing (tab 3 (λ i. 0)) asked.1 (omega arith, tt) (omega arith) (omega arith, tt) f.1
 
-  silent-row : Rows w → (f : Filled w) → Silent lives (table w.tags) (archive w.layout w.tags) (audited_silent f)
-  silent-row r f zero h = r.1
-  silent-row r f (suc zero) h = r.2
-  silent-row r f (suc (suc i)) h = absurd (omega arith)
+  silent_row : Rows w → (f : Filled w) → Silent lives (table w.tags) (archive w.layout w.tags) (audited_silent f)
+  silent_row r f zero h = r.1
+  silent_row r f (suc zero) h = r.2
+  silent_row r f (suc (suc i)) h = absurd (omega arith)
 
   messages : (f : Filled w)
       → (message lives (table w.tags) (archive w.layout w.tags) (audited f) ≡ 0x14 ∷ 0x40 ∷ 0x1c ∷ 0xda ∷ 0x80 ∷ [])
@@ -241,21 +241,21 @@ module _ (w : Numbers) (o : Opens w) (u : SetsUp w) where
   takes : (node place a b : ℕ) → a < 256 → b < 256 → TakesOne lives (encode node place L.file L.padding L.tag_key (a ∷ b ∷ []))
   takes node place a b la lb = (refl, refl, refl, bytes_each (a ∷ b ∷ []) (la, (lb, tt)))
 
-  one-admitted : Admitted lives all_empty (take 2 L.encodes)
-  one-admitted = (λ e. takes 1 0 0x53 0xca (omega arith) (omega arith), (λ e. takes 1 1 0x00 0x00 (omega arith) (omega arith), tt))
+  one_admitted : Admitted lives all_empty (take 2 L.encodes)
+  one_admitted = (λ e. takes 1 0 0x53 0xca (omega arith) (omega arith), (λ e. takes 1 1 0x00 0x00 (omega arith) (omega arith), tt))
 
-  two-admitted : (t : Table) → Admitted lives t (drop 2 L.encodes)
-  two-admitted t = (λ e. takes 2 0 0xf3 0xfe (omega arith) (omega arith), (λ e. takes 2 1 0x72 0xfb (omega arith) (omega arith), tt))
+  two_admitted : (t : Table) → Admitted lives t (drop 2 L.encodes)
+  two_admitted t = (λ e. takes 2 0 0xf3 0xfe (omega arith) (omega arith), (λ e. takes 2 1 0x72 0xfb (omega arith) (omega arith), tt))
 
-  encodes-admitted : Admitted lives all_empty L.encodes
-  encodes-admitted = (one-admitted.0, (one-admitted.1.0, two-admitted (one_table w.tags)))
+  encodes_admitted : Admitted lives all_empty L.encodes
+  encodes_admitted = (one_admitted.0, (one_admitted.1.0, two_admitted (one_table w.tags)))
 
   -- the fresh archive from its own table, not by way of the life's
   fresh : FreshAnswers w → Image (fresh_table w.tags) w.archive_bytes → (lent : List ℕ) → length lent ≡ archive_length (L.z w.tags)
       → (archive_answers (open_out w.layout (L.z w.tags) L.id lent) L.encodes ≡ Done ∷ Done ∷ Done ∷ Done ∷ [])
       × (archive_run (open_out w.layout (L.z w.tags) L.id lent) L.encodes ≡ w.archive_bytes)
   fresh answers image lent long =
-      let made = from_new lives lent (reopens lives lent long) L.encodes encodes-admitted in (made.0 ∙ answers, made.1 ∙ image)
+      let made = from_new lives lent (reopens lives lent long) L.encodes encodes_admitted in (made.0 ∙ answers, made.1 ∙ image)
 
   merged : Joined w → Image (one_table w.tags) one_bytes → Image (two_table w.tags) two_bytes
       → (lent : List ℕ) → length lent ≡ archive_length (L.z w.tags)
@@ -265,8 +265,8 @@ module _ (w : Numbers) (o : Opens w) (u : SetsUp w) where
       (archive_run (open_out w.layout (L.z w.tags) L.id lent) (drop 2 L.encodes)) 2 ≡ w.archive_bytes)
   merged joins first second lent long =
       rw (
-        (from_new lives lent (reopens lives lent long) (take 2 L.encodes) one-admitted).1 ∙ first,
-        (from_new lives lent (reopens lives lent long) (drop 2 L.encodes) (two-admitted all_empty)).1 ∙ second,
+        (from_new lives lent (reopens lives lent long) (take 2 L.encodes) one_admitted).1 ∙ first,
+        (from_new lives lent (reopens lives lent long) (drop 2 L.encodes) (two_admitted all_empty)).1 ∙ second,
       )
       joins
 
@@ -274,14 +274,14 @@ module _ (w : Numbers) (o : Opens w) (u : SetsUp w) where
   Expected f = expected lives (table w.tags) (archive w.layout w.tags) (audited f) ≡ w.response_bytes
 
   module _ (v : Vectors w) (few : w.tags ≤ 10) where
-    vector-same : (k e : ℕ) → k < w.tags → e < 5 → key_vector L.tag_key L.id k e ≡ at w.vector_bytes (k * 5 + e)
-    vector-same k e h he =
+    vector_same : (k e : ℕ) → k < w.tags → e < 5 → key_vector L.tag_key L.id k e ≡ at w.vector_bytes (k * 5 + e)
+    vector_same k e h he =
         sym (vector_element k e (omega arith) he) ∙ sym (flat_at w.tags 5 _ k e h he) ∙ ap (λ (x : List ℕ). at x (k * 5 + e)) v
 
     abbrev ImageOver : Table → List ℕ → Type 0
     ImageOver t bytes =
         archive_of w.layout (L.z w.tags) L.id (λ k. is_filled (numbered (L.z w.tags) t k))
-        (λ k. record_over (setting lives) (λ s e. at w.vector_bytes (s * 5 + e)) vector-same (numbered (L.z w.tags) t k))
+        (λ k. record_over (setting lives) (λ s e. at w.vector_bytes (s * 5 + e)) vector_same (numbered (L.z w.tags) t k))
         ≡ bytes
 
     -- of the table after the calls, of that after the Encodes alone, and of those after the Encodes of one node
@@ -290,11 +290,11 @@ module _ (w : Numbers) (o : Opens w) (u : SetsUp w) where
         ImageOver (table w.tags) w.archive_bytes × ImageOver (fresh_table w.tags) w.archive_bytes × ImageOver (one_table w.tags) one_bytes
         × ImageOver (two_table w.tags) two_bytes
 
-    image-of : (t : Table) (bytes : List ℕ) → ImageOver t bytes → Image t bytes
-    image-of t bytes e = image_over (setting lives) (λ s e. at w.vector_bytes (s * 5 + e)) vector-same t ∙ e
+    image_of : (t : Table) (bytes : List ℕ) → ImageOver t bytes → Image t bytes
+    image_of t bytes e = image_over (setting lives) (λ s e. at w.vector_bytes (s * 5 + e)) vector_same t ∙ e
 
-    images-of : ImagesOver → Images
-    images-of e = (image-of _ _ e.0, image-of _ _ e.1, image-of _ _ e.2, image-of _ _ e.3)
+    images_of : ImagesOver → Images
+    images_of e = (image_of _ _ e.0, image_of _ _ e.1, image_of _ _ e.2, image_of _ _ e.3)
 
     module _ (f : Filled w) where
       abbrev block : ℕ → ℕ
@@ -306,12 +306,12 @@ module _ (w : Numbers) (o : Opens w) (u : SetsUp w) where
           (λ s. product 5 block (λ e. at w.vector_bytes (s * 5 + e)))
           ≡ w.response_bytes
 
-      expected-of : Elements → ExpectedOver → Expected f
+      expected_of : Elements → ExpectedOver → Expected f
       unfolding response_for
-      expected-of e o =
+      expected_of e o =
           ap (λ (x : List ℕ). expected_by x) e
           ∙ response_same 3 w.tags 2 block block _ _ _ (audited f).seed _ (omega arith) (λ i h. refl)
-          (λ s h. product_keys 5 block _ _ (λ i hi. vector-same s i h hi))
+          (λ s h. product_keys 5 block _ _ (λ i hi. vector_same s i h hi))
           ∙ o
         where
           expected_by : List ℕ → List ℕ
@@ -320,16 +320,16 @@ module _ (w : Numbers) (o : Opens w) (u : SetsUp w) where
   life : Answers w × FreshAnswers w → (f : Filled w) → Rows w → Shelf w → Vectors w → Images → FreshCalls → Elements → Expected f → LossesAre w.archive_bytes → Shared w w.archive_bytes
       → Joined w → Lived w
   life answers f rows shelved vectors images fresh_encodes elements response losses shared joins =
-      let d : Demand lives (calls w.tags) (table w.tags) (archive w.layout w.tags) = demand3 lives (calls w.tags) life-admitted in
+      let d : Demand lives (calls w.tags) (table w.tags) (archive w.layout w.tags) = demand3 lives (calls w.tags) life_admitted in
       let sends = (d.audits (audited f)).sends ∙ response in
       let telling : Telling lives (table w.tags) (archive w.layout w.tags) (audited f) =
       record { one = 0; one_there = omega arith; one_not = λ e. let x : ◌≡◌ {A = ℕ} 0xc8 0 = sym rows.0 ∙ e in omega arith } in
-      let left : archive w.layout w.tags ≡ w.archive_bytes = run_is lives (calls w.tags) life-admitted ∙ images.0 in
+      let left : archive w.layout w.tags ≡ w.archive_bytes = run_is lives (calls w.tags) life_admitted ∙ images.0 in
       record {
         opens = o;
         sets_up = u;
         file_bytes = bytes_each (0x57 ∷ 0x01 ∷ []) (omega arith, (omega arith, tt));
-        admitted = life-admitted;
+        admitted = life_admitted;
         answers = d.answers ∙ answers.0;
         archive_is = left;
         fresh_encodes = fresh_encodes;
@@ -347,8 +347,8 @@ module _ (w : Numbers) (o : Opens w) (u : SetsUp w) where
         accepted = rw (← sends) ((d.audits (audited f)).accepts telling);
         silent_audit = audited_silent f;
         silent_message = (messages f).1;
-        silent = silent-row rows f;
-        unproved = d.unproved (audited_silent f) (silent-row rows f) _ refl refl;
+        silent = silent_row rows f;
+        unproved = d.unproved (audited_silent f) (silent_row rows f) _ refl refl;
       }
 
 abbrev pub given : Given
@@ -377,11 +377,11 @@ responses_over = (refl, refl)
 pub lived : Lived L.one × Lived L.three
 lived = (
   life L.one opens.0 sets_up.0 table_answers_lem.0 all_filled.0 rows.0 shelves.0 vectors.0
-      (images-of L.one opens.0 sets_up.0 vectors.0 (lit≤ tt) images_over.0) fresh_calls_are.0 elements.0
-      (expected-of L.one opens.0 sets_up.0 vectors.0 (lit≤ tt) all_filled.0 elements.0 responses_over.0)
+      (images_of L.one opens.0 sets_up.0 vectors.0 (lit≤ tt) images_over.0) fresh_calls_are.0 elements.0
+      (expected_of L.one opens.0 sets_up.0 vectors.0 (lit≤ tt) all_filled.0 elements.0 responses_over.0)
       losses_are.0 shared.0 joined.0,
   life L.three opens.1 sets_up.1 table_answers_lem.1 all_filled.1 rows.1 shelves.1 vectors.1
-      (images-of L.three opens.1 sets_up.1 vectors.1 (lit≤ tt) images_over.1) fresh_calls_are.1 elements.1
-      (expected-of L.three opens.1 sets_up.1 vectors.1 (lit≤ tt) all_filled.1 elements.1 responses_over.1)
+      (images_of L.three opens.1 sets_up.1 vectors.1 (lit≤ tt) images_over.1) fresh_calls_are.1 elements.1
+      (expected_of L.three opens.1 sets_up.1 vectors.1 (lit≤ tt) all_filled.1 elements.1 responses_over.1)
       losses_are.1 shared.1 joined.1,
 )

@@ -77,29 +77,29 @@ LossesAre s =
 
 module _ (tags : ℕ) (s : List ℕ) (h : Header tags s) (r : Rows tags s) where
   -- places 4 and 5 are those of node 2
-  of-last : (k : ℕ) → 4 ≤ k → k < 6 → (set : ℕ) → in_set set (k / 2) ≡ hurting set
-  of-last k low high set = let q : k / 2 ≡ 2 = omega arith in ap (λ (node : ℕ). in_set set node) q
+  of_last : (k : ℕ) → 4 ≤ k → k < 6 → (set : ℕ) → in_set set (k / 2) ≡ hurting set
+  of_last k low high set = let q : k / 2 ≡ 2 = omega arith in ap (λ (node : ℕ). in_set set node) q
 
   orthogonal : (set : ℕ) → T (hurting set) → (k : ℕ) → k < 6 → remains (L.z tags) s set k ≡ true
       → product 2 (row_in (L.z tags) s k) (at (0xca ∷ 0x53 ∷ [])) ≡ 0
   orthogonal set t k high e =
       ⊎_elim
       (λ (l : k < 4). eqb→eq _ _ (all_at 4 _ r.0 k l))
-      (λ (l : 4 ≤ k). absurd (subst T (sym (of-last k l high set) ∙ (filled (in_set set (k / 2)) (mark_at s k) e).0) t))
+      (λ (l : 4 ≤ k). absurd (subst T (sym (of_last k l high set) ∙ (filled (in_set set (k / 2)) (mark_at s k) e).0) t))
       (order k 4)
 
-  last-remains : (set : ℕ) → hurting set ≡ false → (j : ℕ) → j < 2 → remains (L.z tags) s set (4 + j) ≡ true
-  last-remains set p j l =
-      ap (λ (t : Bool). pick t false (mark_at s (4 + j))) (of-last (4 + j) (omega arith) (omega arith) set ∙ p) ∙ told _ (all_at 2 _ h.2 j l)
+  last_remains : (set : ℕ) → hurting set ≡ false → (j : ℕ) → j < 2 → remains (L.z tags) s set (4 + j) ≡ true
+  last_remains set p j l =
+      ap (λ (t : Bool). pick t false (mark_at s (4 + j))) (of_last (4 + j) (omega arith) (omega arith) set ∙ p) ∙ told _ (all_at 2 _ h.2 j l)
 
   sighted : (set : ℕ) → hurting set ≡ false → ¬ Hurts (L.z tags) s set
   sighted set p b =
       b.one_not (vanishes 2 2 (λ j. row_in (L.z tags) s (4 + j)) b.v b.one b.one_there (b.bytes b.one b.one_there)
       (coefficients b.one, λ e l. eqb→eq _ _ (all_at 2 _ (all_at 2 _ r.1 b.one b.one_there) e l))
-      (λ j l. b.orthogonal (4 + j) (omega arith) (last-remains set p j l)))
+      (λ j l. b.orthogonal (4 + j) (omega arith) (last_remains set p j l)))
 
-  life-hurts : (set : ℕ) → Hurts (L.z tags) s set ↔ T (hurting set)
-  life-hurts set = (
+  life_hurts : (set : ℕ) → Hurts (L.z tags) s set ↔ T (hurting set)
+  life_hurts set = (
     go (hurting set) refl,
     λ t. hurts_by 2 3 tags s set 0xca 0x53 (omega arith) (omega arith) (λ e. omega arith) (orthogonal set t),
   )
@@ -108,16 +108,16 @@ module _ (tags : ℕ) (s : List ℕ) (h : Header tags s) (r : Rows tags s) where
       go true p w = tt
       go false p w = sighted set p w
 
-  life-listed : (k : ℕ) (xs out : List ℕ) → k ≤ 3 → length out ≡ 20 → length xs ≤ 20 → Passes hurting 3 k xs
+  life_listed : (k : ℕ) (xs out : List ℕ) → k ≤ 3 → length out ≡ 20 → length xs ≤ 20 → Passes hurting 3 k xs
       → LossesAllows s k out (Count (length xs)) (zero_padded 20 xs)
-  life-listed = listed (L.z tags) s h.0 h.1 hurting life-hurts
+  life_listed = listed (L.z tags) s h.0 h.1 hurting life_hurts
 
   all_listed : LossesAre s
   all_listed out e = (
-    life-listed 0 [] out (omega arith) e (omega arith) life_pass.0,
-    life-listed 1 (0x04 ∷ []) out (omega arith) e (omega arith) life_pass.1,
-    life-listed 2 (0x05 ∷ 0x06 ∷ []) out (omega arith) e (omega arith) life_pass.2,
-    life-listed 3 (0x07 ∷ []) out (omega arith) e (omega arith) life_pass.3,
+    life_listed 0 [] out (omega arith) e (omega arith) life_pass.0,
+    life_listed 1 (0x04 ∷ []) out (omega arith) e (omega arith) life_pass.1,
+    life_listed 2 (0x05 ∷ 0x06 ∷ []) out (omega arith) e (omega arith) life_pass.2,
+    life_listed 3 (0x07 ∷ []) out (omega arith) e (omega arith) life_pass.3,
   )
 
 pub losses_are : LossesAre (L.one).archive_bytes × LossesAre (L.three).archive_bytes

@@ -28,15 +28,15 @@ module _ (z : Sizes) (s : List ℕ) (k c d : ℕ) (sets sets' : List ℕ) (w : L
       same_rising (λ x y. before (nodes_in x) (nodes_in y) ≡ true) (λ x y. before_one_way (nodes_in x) (nodes_in y)) c d (at sets) (at sets')
       w.order w'.order (listed_too z s k c d sets sets' w w') (listed_too z s k d c sets' sets w' w)
 
-  rest-same : (j : ℕ) → c ≤ j → j < list_length → at sets j ≡ at sets' j
-  rest-same j l h = w.rest j l h ∙ sym (w'.rest j (omega (arith, sets_same.0)) h)
+  rest_same : (j : ℕ) → c ≤ j → j < list_length → at sets j ≡ at sets' j
+  rest_same j l h = w.rest j l h ∙ sym (w'.rest j (omega (arith, sets_same.0)) h)
 
-  lists-same : sets ≡ sets'
-  lists-same = ext_get_or 0 sets sets' (w.size ∙ sym w'.size) (λ j h. ⊎_elim (sets_same.1 j) (λ l. rest-same j l (omega (arith, w.size))) (order j c))
+  lists_same : sets ≡ sets'
+  lists_same = ext_get_or 0 sets sets' (w.size ∙ sym w'.size) (λ j h. ⊎_elim (sets_same.1 j) (λ l. rest_same j l (omega (arith, w.size))) (order j c))
 
 pub losses_are_fixed : LossesAreFixed
 losses_are_fixed s k lent (Count c) (Count d) sets sets' w w' =
-    (ap Count (sets_same (sizes_of s) s k c d sets sets' w.1 w'.1).0, lists-same (sizes_of s) s k c d sets sets' w.1 w'.1)
+    (ap Count (sets_same (sizes_of s) s k c d sets sets' w.1 w'.1).0, lists_same (sizes_of s) s k c d sets sets' w.1 w'.1)
 losses_are_fixed s k lent (Count c) (Refused r) sets sets' w w' = absurd (never_both w.0 w'.1)
 losses_are_fixed s k lent (Refused r) (Count d) sets sets' w w' = absurd (never_both w'.0 w.1)
 losses_are_fixed s k lent (Refused r) (Refused r') sets sets' w w' = (ap Refused (same_refusal w.1 w'.1), w.0 ∙ sym w'.0)

@@ -45,23 +45,23 @@ module _ (s lent sets : List ℕ) (k count set : ℕ) (w : LossesAllows s k lent
   left : Without z s (nodes_in set) (mark_at s) (byte_in z s) t
   left = run.parts
 
-  mark-is : (p : ℕ) → p < place_count z → mark_at t p ≡ remains z s set p
-  mark-is p h =
+  mark_is : (p : ℕ) → p < place_count z → mark_at t p ≡ remains z s set p
+  mark_is p h =
       let R : Ranged z = good_sizes s good in
       left.marks p (omega (arith, count_low z R)) ∙ rw (nodes_hold set (p / z.places) (omega (arith, node_of z R p h, R.nodes_high)))
 
   -- a place that is still filled holds what it held
-  byte-is : (p q : ℕ) → p < place_count z → q < record_length z → mark_at t p ≡ true → byte_in z t p q ≡ byte_in z s p q
-  byte-is p q h hq e =
+  byte_is : (p q : ℕ) → p < place_count z → q < record_length z → mark_at t p ≡ true → byte_in z t p q ≡ byte_in z s p q
+  byte_is p q h hq e =
       let stays : holds (nodes_in set) (p / z.places) ≡ false =
       (filled (holds (nodes_in set) (p / z.places)) (mark_at s p) (sym (left.marks p (omega (arith, count_low z (good_sizes s good)))) ∙ e)).0 in
       left.bytes p q h hq ∙ rw stays
 
   to_set : Blind z (mark_at t) (row_in z t) → Hurts z s set
-  to_set = blind_same z _ _ _ _ mark-is (λ p i h e hi. byte-is p _ h (omega arith) (mark-is p h ∙ e))
+  to_set = blind_same z _ _ _ _ mark_is (λ p i h e hi. byte_is p _ h (omega arith) (mark_is p h ∙ e))
 
-  to-archive : Hurts z s set → Blind z (mark_at t) (row_in z t)
-  to-archive = blind_same z _ _ _ _ (λ p h. sym (mark-is p h)) (λ p i h e hi. sym (byte-is p _ h (omega arith) e))
+  to_archive : Hurts z s set → Blind z (mark_at t) (row_in z t)
+  to_archive = blind_same z _ _ _ _ (λ p h. sym (mark_is p h)) (λ p i h e hi. sym (byte_is p _ h (omega arith) e))
 
   -- what is claimed of an answer of Read
   abbrev Shown : Counted → Type 0
@@ -74,7 +74,7 @@ module _ (s lent sets : List ℕ) (k count set : ℕ) (w : LossesAllows s k lent
   read out answer file long allows = go answer (subst (λ (x : Sizes). ReadFor x t out answer file) (sym run.sizes) allows)
     where
       go : (answer : Counted) → ReadFor z t out answer file → Shown answer
-      go (Count c) r = ((λ e. absurd (omega arith), λ stands. absurd (r.1 (to-archive (hurts stands)))), λ n. refl)
+      go (Count c) r = ((λ e. absurd (omega arith), λ stands. absurd (r.1 (to_archive (hurts stands)))), λ n. refl)
       go (Refused refusal) r =
           ⊎_elim
           (λ x. absurd (never_both (passed _ _ run.good ∙ passed _ _ (differs_same long)) x))

@@ -14,23 +14,23 @@ use Rattle.promise.specs.Plans.{PlanIsFixed}
 
 module _ (s helpers : List ℕ) (q : ℕ) (gammas rows lent thetas thetas' : List ℕ) where
   -- NoPlan is answered just where every other test passed and some vector rules a plan out
-  refusals-same : {r r' : Refusal} → PlanAllows s helpers q gammas rows lent (Refused r) thetas
+  refusals_same : {r r' : Refusal} → PlanAllows s helpers q gammas rows lent (Refused r) thetas
       → PlanAllows s helpers q gammas rows lent (Refused r') thetas' → r ≡ r'
-  refusals-same w w' =
+  refusals_same w w' =
       ⊎_elim
       (λ a. ⊎_elim (λ b. same_refusal a b) (λ b. absurd (never_both b.0 a)) w'.1)
       (λ a. ⊎_elim (λ b. absurd (never_both a.0 b)) (λ b. a.1 ∙ sym b.1) w'.1)
       w.1
 
-  not-both : {r : Refusal} → PlanAllows s helpers q gammas rows lent Done thetas → PlanAllows s helpers q gammas rows lent (Refused r) thetas' → ⊥
-  not-both w w' = ⊎_elim (λ a. never_both w.0 a) (λ a. w.1 a.2) w'.1
+  not_both : {r : Refusal} → PlanAllows s helpers q gammas rows lent Done thetas → PlanAllows s helpers q gammas rows lent (Refused r) thetas' → ⊥
+  not_both w w' = ⊎_elim (λ a. never_both w.0 a) (λ a. w.1 a.2) w'.1
 
-  thetas-same : PlanAllows s helpers q gammas rows lent Done thetas → PlanAllows s helpers q gammas rows lent Done thetas' → thetas ≡ thetas'
-  thetas-same w w' = planned_only (sizes_of s) (length helpers * q) _ _ thetas thetas' (repair_low (sizes_of s) s helpers q gammas) w.2 w'.2
+  thetas_same : PlanAllows s helpers q gammas rows lent Done thetas → PlanAllows s helpers q gammas rows lent Done thetas' → thetas ≡ thetas'
+  thetas_same w w' = planned_only (sizes_of s) (length helpers * q) _ _ thetas thetas' (repair_low (sizes_of s) s helpers q gammas) w.2 w'.2
 
 pub plan_is_fixed : PlanIsFixed
-plan_is_fixed s helpers q gammas rows lent Done Done thetas thetas' w w' = (refl, thetas-same s helpers q gammas rows lent thetas thetas' w w')
-plan_is_fixed s helpers q gammas rows lent Done (Refused r) thetas thetas' w w' = absurd (not-both s helpers q gammas rows lent thetas thetas' w w')
-plan_is_fixed s helpers q gammas rows lent (Refused r) Done thetas thetas' w w' = absurd (not-both s helpers q gammas rows lent thetas' thetas w' w)
+plan_is_fixed s helpers q gammas rows lent Done Done thetas thetas' w w' = (refl, thetas_same s helpers q gammas rows lent thetas thetas' w w')
+plan_is_fixed s helpers q gammas rows lent Done (Refused r) thetas thetas' w w' = absurd (not_both s helpers q gammas rows lent thetas thetas' w w')
+plan_is_fixed s helpers q gammas rows lent (Refused r) Done thetas thetas' w w' = absurd (not_both s helpers q gammas rows lent thetas' thetas w' w)
 plan_is_fixed s helpers q gammas rows lent (Refused r) (Refused r') thetas thetas' w w' =
-    (ap Refused (refusals-same s helpers q gammas rows lent thetas thetas' w w'), w.0 ∙ sym w'.0)
+    (ap Refused (refusals_same s helpers q gammas rows lent thetas thetas' w w'), w.0 ∙ sym w'.0)

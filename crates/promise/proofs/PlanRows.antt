@@ -35,8 +35,8 @@ module _ (s s' helpers : List ℕ) (q : ℕ) (gammas rows lent : List ℕ) (S : 
   z' = sizes_of s'
 
   -- the number of a helper's place
-  helper-low : helper_missing z helpers ≡ false → (a l : ℕ) → a < length helpers → l < z.places → place_number z (at helpers a) l < place_count z
-  helper-low e a l h hl = number_low z (good_sizes s S.good) (at helpers a) l (leb-false _ _ (any_below_lem _ _ e a h)) hl
+  helper_low : helper_missing z helpers ≡ false → (a l : ℕ) → a < length helpers → l < z.places → place_number z (at helpers a) l < place_count z
+  helper_low e a l h hl = number_low z (good_sizes s S.good) (at helpers a) l (leb-false _ _ (any_below_lem _ _ e a h)) hl
 
   -- every test but 12
   before_same : plan_before s helpers q gammas rows lent ≡ plan_before s' helpers q gammas rows lent
@@ -45,37 +45,37 @@ module _ (s s' helpers : List ℕ) (q : ℕ) (gammas rows lent : List ℕ) (S : 
       refuse_same _ _ Length _ _ (rw (S.same_m, S.same_places)) (λ _. refuse_same _ _ NoSuchPlace _ _ (rw S.same_nodes) (λ n.
       refuse_same _ _ PlaceEmpty _ _
       (any_same (length helpers) _ _ (λ i h.
-      any_same z.places _ _ (λ l hl. ap not (S.marks (place_number z (at helpers i) l) (helper-low n i l h hl)))
+      any_same z.places _ _ (λ l hl. ap not (S.marks (place_number z (at helpers i) l) (helper_low n i l h hl)))
       ∙ ap (λ (x : ℕ). any_below x (λ l. not (mark_at s' (at helpers i * x + l)))) S.same_places))
       (λ _. refl)))))
 
-  wanted-same : Alike z.places z.m (wanted_row z rows) (wanted_row z' rows)
-  wanted-same k i h l = ap (λ (x : ℕ). at rows (k * x + i)) S.same_m
+  wanted_same : Alike z.places z.m (wanted_row z rows) (wanted_row z' rows)
+  wanted_same k i h l = ap (λ (x : ℕ). at rows (k * x + i)) S.same_m
 
   module _ (done : plan_before s helpers q gammas rows lent ≡ Done) where
     -- the helpers' rows, which are all filled, and the repair rows
-    helper-same : (a l i : ℕ) → a < length helpers → l < z.places → i < z.m
+    helper_same : (a l i : ℕ) → a < length helpers → l < z.places → i < z.m
         → row_in z s (place_number z (at helpers a) l) i ≡ row_in z' s' (place_number z (at helpers a) l) i
-    helper-same a l i h hl =
+    helper_same a l i h hl =
         let nodes = accepted _ _ _ (accepted _ _ _ (accepted _ _ _ (accepted _ _ _ done).1).1).1 in
         let places = (accepted _ _ _ nodes.1).0 in
-        S.rows (place_number z (at helpers a) l) i (helper-low nodes.0 a l h hl) (not-false _ (any_below_lem _ _ (any_below_lem _ _ places a h) l hl))
+        S.rows (place_number z (at helpers a) l) i (helper_low nodes.0 a l h hl) (not-false _ (any_below_lem _ _ (any_below_lem _ _ places a h) l hl))
 
-    repair-same : Alike (length helpers * q) z.m (repair_row z s helpers q gammas) (repair_row z' s' helpers q gammas)
+    repair_same : Alike (length helpers * q) z.m (repair_row z s helpers q gammas) (repair_row z' s' helpers q gammas)
     unfolding repair_byte mixed
-    repair-same t i h hi =
+    repair_same t i h hi =
         let low = (inside 1 _ q (none_at _ 1 (accepted _ _ _ (accepted _ _ _ done).1).0)).0 in
-        sum_same z.places _ _ (λ l hl. ap (times _) (helper-same (t / q) l i ((div-lt_iff_lt-mul {k = q} low).1 h) hl hi))
+        sum_same z.places _ _ (λ l hl. ap (times _) (helper_same (t / q) l i ((div-lt_iff_lt-mul {k = q} low).1 h) hl hi))
         ∙ ap (λ (x : ℕ). sum x (λ l. times (at gammas ((t / q * q + t % q) * x + l)) (row_in z' s' (at helpers (t / q) * x + l) i))) S.same_places
 
     -- what the rows rule out, and what they allow
     unreachable : Unreachable z (length helpers * q) (repair_row z s helpers q gammas) (wanted_row z rows)
         → Unreachable z' (length helpers * q) (repair_row z' s' helpers q gammas) (wanted_row z' rows)
-    unreachable = unreachable_alike z z' (length helpers * q) _ _ _ _ S.same_m S.same_places repair-same wanted-same
+    unreachable = unreachable_alike z z' (length helpers * q) _ _ _ _ S.same_m S.same_places repair_same wanted_same
 
     planned : (thetas : List ℕ) → Planned z (length helpers * q) (repair_row z s helpers q gammas) (wanted_row z rows) thetas
         → Planned z' (length helpers * q) (repair_row z' s' helpers q gammas) (wanted_row z' rows) thetas
-    planned = planned_alike z z' (length helpers * q) _ _ _ _ S.same_m S.same_places repair-same wanted-same
+    planned = planned_alike z z' (length helpers * q) _ _ _ _ S.same_m S.same_places repair_same wanted_same
 
 pub plan_reads_rows : PlanReadsRows
 plan_reads_rows s s' helpers q gammas rows lent (Refused r) thetas S w =

@@ -73,24 +73,24 @@ module _ (s : Setting) (F : Fit s) (t : Table) (fine : AllFine s.z t) where
   abbrev row : ℕ → ℕ → ℕ
   row k = element (numbered s.z t k)
 
-  before-right : (out : List ℕ) (n : ℕ) → length out ≡ n → refuse (bad_archive A) BadArchive (refuse (differs (length out) n) Length Done) ≡ Done
+  before_right : (out : List ℕ) (n : ℕ) → length out ≡ n → refuse (bad_archive A) BadArchive (refuse (differs (length out) n) Length Done) ≡ Done
   unfolding refuse
-  before-right out n e = rw (image_good s F t, eq-eqb (length out) n e)
+  before_right out n e = rw (image_good s F t, eq-eqb (length out) n e)
 
-  before-wrong : (out : List ℕ) (n : ℕ) → length out ≢ n → refuse (bad_archive A) BadArchive (refuse (differs (length out) n) Length Done) ≡ RefusedOutcome Length
+  before_wrong : (out : List ℕ) (n : ℕ) → length out ≢ n → refuse (bad_archive A) BadArchive (refuse (differs (length out) n) Length Done) ≡ RefusedOutcome Length
   unfolding refuse
-  before-wrong out n e = rw (image_good s F t, ne_eqb (length out) n e)
+  before_wrong out n e = rw (image_good s F t, ne_eqb (length out) n e)
 
   -- ---- Inventory
 
-  mark-is : (k : ℕ) → k < place_count s.z → mark_at A k ≡ is_f k
-  mark-is k h = image_mark s F t k (omega (arith, count_low s.z F.ranged))
+  mark_is : (k : ℕ) → k < place_count s.z → mark_at A k ≡ is_f k
+  mark_is k h = image_mark s F t k (omega (arith, count_low s.z F.ranged))
 
   abbrev count : ℕ
   count = how_many (place_count s.z) is_f
 
-  table-listed : Listed s.z (λ node place. is_filled (t node place)) count (shelf s.z is_f)
-  table-listed =
+  table_listed : Listed s.z (λ node place. is_filled (t node place)) count (shelf s.z is_f)
+  table_listed =
       listed_same s.z F.ranged _ _ (λ node place h hp. ap is_filled (numbered_at s.z F.ranged t node place h hp)) count _
       (shelf_listed s.z F.ranged is_f)
 
@@ -103,15 +103,15 @@ module _ (s : Setting) (F : Fit s) (t : Table) (fine : AllFine s.z t) where
       × Listed s.z (λ node place. is_filled (t node place)) count (afterwards (inventory_before z A out) out (shelf z (mark_at A))))
       × (length out ≢ place_count s.z → counted_number (counted (inventory_before z A out) (how_many (place_count z) (mark_at A))) ≡ 2)
 
-  by-sizes : (out : List ℕ) → Inventoried (sizes_of A) out
-  by-sizes out =
-      let counts : count ≡ how_many (place_count s.z) (mark_at A) = sym (how_many_same (place_count s.z) (mark_at A) is_f mark-is) in
-      let shelves : shelf s.z is_f ≡ shelf s.z (mark_at A) = sym (shelf_same s.z (mark_at A) is_f mark-is) in
+  by_sizes : (out : List ℕ) → Inventoried (sizes_of A) out
+  by_sizes out =
+      let counts : count ≡ how_many (place_count s.z) (mark_at A) = sym (how_many_same (place_count s.z) (mark_at A) is_f mark_is) in
+      let shelves : shelf s.z is_f ≡ shelf s.z (mark_at A) = sym (shelf_same s.z (mark_at A) is_f mark_is) in
       subst (λ (z : Sizes). Inventoried z out) (sym (image_sizes s F t)) (
         λ e.
-            let w = counted_written out (before-right out _ e) counts shelves in
-            (sym w.0, sym w.1, subst (Listed s.z (λ node place. is_filled (t node place)) count) w.1 table-listed),
-        λ e. ap counted_number (sym (counted_kept {before = out} _ out (before-wrong out _ e)).0),
+            let w = counted_written out (before_right out _ e) counts shelves in
+            (sym w.0, sym w.1, subst (Listed s.z (λ node place. is_filled (t node place)) count) w.1 table_listed),
+        λ e. ap counted_number (sym (counted_kept {before = out} _ out (before_wrong out _ e)).0),
       )
 
   pub inventory : (out : List ℕ)
@@ -120,27 +120,27 @@ module _ (s : Setting) (F : Fit s) (t : Table) (fine : AllFine s.z t) where
       × Listed s.z (λ node place. is_filled (t node place)) count (inventory_out A out))
       × (length out ≢ place_count s.z → counted_number (inventory_answer A out) ≡ 2)
   unfolding inventory_answer inventory_out
-  inventory = by-sizes
+  inventory = by_sizes
 
   -- ---- Read
 
-  fine-at : (k : ℕ) → k < place_count s.z → Fine s.z (numbered s.z t k)
-  fine-at k h = subst (Fine s.z) (sym (numbered_below s.z F.ranged t k h)) (fine (k / s.z.places) (k % s.z.places))
+  fine_at : (k : ℕ) → k < place_count s.z → Fine s.z (numbered s.z t k)
+  fine_at k h = subst (Fine s.z) (sym (numbered_below s.z F.ranged t k h)) (fine (k / s.z.places) (k % s.z.places))
 
   row_is : (k i : ℕ) → k < place_count s.z → i < s.z.m → row_in s.z A k i ≡ row k i
-  row_is k i h hi = image_rows s F t k i (fine-at k h) h hi
+  row_is k i h hi = image_rows s F t k i (fine_at k h) h hi
 
-  to-table : Blind s.z (mark_at A) (row_in s.z A) → Blind s.z is_f row
-  to-table = blind_same s.z _ _ _ _ mark-is (λ k i h t hi. row_is k i h hi)
+  to_table : Blind s.z (mark_at A) (row_in s.z A) → Blind s.z is_f row
+  to_table = blind_same s.z _ _ _ _ mark_is (λ k i h t hi. row_is k i h hi)
 
-  to-archive : Blind s.z is_f row → Blind s.z (mark_at A) (row_in s.z A)
-  to-archive = blind_same s.z _ _ _ _ (λ k h. sym (mark-is k h)) (λ k i h t hi. sym (row_is k i h hi))
+  to_archive : Blind s.z is_f row → Blind s.z (mark_at A) (row_in s.z A)
+  to_archive = blind_same s.z _ _ _ _ (λ k h. sym (mark_is k h)) (λ k i h t hi. sym (row_is k i h hi))
 
   -- the file solves every place's equations
-  file-solves : (k e : ℕ) → k < place_count s.z → e < s.z.n - 2
+  file_solves : (k e : ℕ) → k < place_count s.z → e < s.z.n - 2
       → product s.z.m (row_in s.z A k) (λ i. at s.file (i * (s.z.n - 2) + e)) ≡ byte_in s.z A k e
   unfolding product coded mixed
-  file-solves k e h he =
+  file_solves k e h he =
       let x : Place = numbered s.z t k in
       sym (image_number s F t k e h (omega arith) ∙ record_block s F t x e (omega arith)
       ∙ sum_same s.z.m _ _ (λ i hi. ap₂ times (sym (row_is k i h hi)) (source_file s.z s.file s.padding i e he)))
@@ -157,15 +157,15 @@ module _ (s : Setting) (F : Fit s) (t : Table) (fine : AllFine s.z t) where
     where
       go : (answer : Counted) → ReadFor s.z A out answer file → Answered answer file
       go (Count k) w = (
-        (λ e. absurd (omega arith), λ b. absurd (w.1 (to-archive b))),
+        (λ e. absurd (omega arith), λ b. absurd (w.1 (to_archive b))),
         λ nb. (
           refl,
-          solution_only s.z A file s.file w.2 F.ranged.n_low size bytes (λ k e h tk he. file-solves k e h he) w.1,
-          λ old. enough_same s.z _ _ _ _ k mark-is row_is w.3,
+          solution_only s.z A file s.file w.2 F.ranged.n_low size bytes (λ k e h tk he. file_solves k e h he) w.1,
+          λ old. enough_same s.z _ _ _ _ k mark_is row_is w.3,
         ),
       )
       go (Refused r) w =
           ⊎_elim
-          (λ x. absurd (never_both (before-right out _ long) x))
-          (λ x. ((λ e. to-table x.2, λ b. ap refusal_number x.1), λ nb. absurd (nb (to-table x.2))))
+          (λ x. absurd (never_both (before_right out _ long) x))
+          (λ x. ((λ e. to_table x.2, λ b. ap refusal_number x.1), λ nb. absurd (nb (to_table x.2))))
           w.1

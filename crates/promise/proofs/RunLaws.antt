@@ -61,49 +61,49 @@ gather_same z f g same node =
 module _ (g : Given) (F : Fit (setting g)) where
   -- ---- one call
 
-  image-answer : (t : Table) (c : Call) → archive_answer (image (setting g) t) c ≡ table_answer g.z t c
+  image_answer : (t : Table) (c : Call) → archive_answer (image (setting g) t) c ≡ table_answer g.z t c
   unfolding archive_answer refuse
-  image-answer t c = rw (image_good (setting g) F t, image_sizes (setting g) F t) (answer_same g.z _ _ (image_filled (setting g) F t) c)
+  image_answer t c = rw (image_good (setting g) F t, image_sizes (setting g) F t) (answer_same g.z _ _ (image_filled (setting g) F t) c)
 
-  image-effect : (t : Table) (c : Call) → table_answer g.z t c ≡ Done → TakesOne g c
+  image_effect : (t : Table) (c : Call) → table_answer g.z t c ≡ Done → TakesOne g c
       → effect_for g.z g.id (image (setting g) t) c ≡ image (setting g) (table_effect g.z t c)
   unfolding effect_for answer_for
-  image-effect t (encode node place file padding key row) e o =
+  image_effect t (encode node place file padding key row) e o =
       let w : (node < g.z.nodes) × (place < g.z.places) = encode_there g.z node place (accepted _ _ _ (accepted _ _ _ e).1).0 in
       rw (o.0, o.1, o.2)
       (image_stored (setting g) F t (λ j. true) node place 1 (λ j. filled row) _ w.0 (omega arith) (λ j h. refl) (λ j e h he. refl))
-  image-effect t (lose node) e o =
+  image_effect t (lose node) e o =
       image_stored (setting g) F t (λ j. false) node 0 g.z.places (λ j. empty) (λ j e. 0) (leb-false g.z.nodes node (accepted _ _ _ e).0) (omega arith)
       (λ j h. refl) (λ j e h he. refl)
-  image-effect t (repair target helpers q gammas thetas scratch) e o =
+  image_effect t (repair target helpers q gammas thetas scratch) e o =
       let w : (target < g.z.nodes) × ((i : ℕ) → i < length helpers → at helpers i < g.z.nodes) =
       repair_there g.z target helpers (accepted _ _ _ (accepted _ _ _ (accepted _ _ _ e).1).1).0 in
       image_stored (setting g) F t (λ j. true) target 0 g.z.places _ _ w.0 (omega arith) (λ j h. refl)
       (λ k e h he. image_repaired (setting g) F t helpers q gammas thetas w.1 k e he)
 
-  image-after : (t : Table) (c : Call) → (table_answer g.z t c ≡ Done → TakesOne g c)
+  image_after : (t : Table) (c : Call) → (table_answer g.z t c ≡ Done → TakesOne g c)
       → archive_after (image (setting g) t) c ≡ image (setting g) (table_after g.z t c)
   unfolding archive_after afterwards
-  image-after t c o = rw (image-answer t c, image_sizes (setting g) F t, image_id (setting g) F t) (go (table_answer g.z t c) refl)
+  image_after t c o = rw (image_answer t c, image_sizes (setting g) F t, image_id (setting g) F t) (go (table_answer g.z t c) refl)
     where
       go : (a : Outcome) → table_answer g.z t c ≡ a
           → afterwards a (image (setting g) t) (effect_for g.z g.id (image (setting g) t) c) ≡ image (setting g) (afterwards a t (table_effect g.z t c))
-      go Done e = image-effect t c e (o e)
+      go Done e = image_effect t c e (o e)
       go (Refused r) e = refl
 
   -- ---- a share gathered
 
-  gather-answer : (t u : Table) (node : ℕ) → gather_answer (image (setting g) t) (image (setting g) u) node ≡ table_gather g.z t node
+  gather_answer_lem : (t u : Table) (node : ℕ) → gather_answer (image (setting g) t) (image (setting g) u) node ≡ table_gather g.z t node
   unfolding gather_answer
-  gather-answer t u node =
+  gather_answer_lem t u node =
       passed _ _
       (any_skip _ _ (image_good (setting g) F t) ∙ any_skip _ _ (image_good (setting g) F u) ∙ any_last _
       ∙ same_front _ _ (image_front (setting g) F t u))
       ∙ rw (image_sizes (setting g) F t) (gather_same g.z _ _ (image_filled (setting g) F t) node)
 
-  gather-effect : (t u : Table) (node : ℕ) → table_gather g.z t node ≡ Done
+  gather_effect : (t u : Table) (node : ℕ) → table_gather g.z t node ≡ Done
       → gathered g.z (image (setting g) t) (image (setting g) u) node ≡ image (setting g) (written node 0 g.z.places (u node) t)
-  gather-effect t u node e =
+  gather_effect t u node e =
       let there : node < g.z.nodes = leb-false g.z.nodes node (accepted _ _ _ e).0 in
       image_stored (setting g) F t _ node 0 g.z.places (u node) _ there (omega arith)
       (λ place h. image_filled (setting g) F u node place there h) (λ place e h he. image_byte (setting g) F u node place e there h he)
@@ -113,12 +113,12 @@ module _ (g : Given) (F : Fit (setting g)) where
       × (gather_after (image (setting g) t) (image (setting g) u) node ≡ image (setting g) (table_gathered g.z t u node))
   unfolding gather_after afterwards
   gathers t u node =
-      (gather-answer t u node, rw (gather-answer t u node, image_sizes (setting g) F t) (go (table_gather g.z t node) refl))
+      (gather_answer_lem t u node, rw (gather_answer_lem t u node, image_sizes (setting g) F t) (go (table_gather g.z t node) refl))
     where
       go : (a : Outcome) → table_gather g.z t node ≡ a
           → afterwards a (image (setting g) t) (gathered g.z (image (setting g) t) (image (setting g) u) node)
           ≡ image (setting g) (afterwards a t (written node 0 g.z.places (u node) t))
-      go Done e = gather-effect t u node e
+      go Done e = gather_effect t u node e
       go (Refused r) e = refl
 
   -- ---- every list of calls
@@ -129,4 +129,4 @@ module _ (g : Given) (F : Fit (setting g)) where
   runs t [] a = (refl, refl)
   runs t (c ∷ cs) a =
       let w = runs (table_after g.z t c) cs a.1 in
-      (rw (image-answer t c, image-after t c a.0, w.0), rw (image-after t c a.0) w.1)
+      (rw (image_answer t c, image_after t c a.0, w.0), rw (image_after t c a.0) w.1)

@@ -52,8 +52,8 @@ module _ (z : Sizes) (R : Ranged z) where
     abbrev K : ℕ
     K = place_number z node place
 
-    written-own : (p : ℕ) → p < z.places → over place count new (t node) p ≡ over K count new (numbered z t) (place_number z node p)
-    written-own p l =
+    written_own : (p : ℕ) → p < z.places → over place count new (t node) p ≡ over K count new (numbered z t) (place_number z node p)
+    written_own p l =
         let kept : numbered z t (place_number z node p) ≡ t node p = numbered_at t node p h l in
         ⊎_elim
         (λ (a : p < place). over_below place count new (t node) p a ∙ sym (over_below K count new (numbered z t) (place_number z node p) (omega arith) ∙ kept))
@@ -67,8 +67,8 @@ module _ (z : Sizes) (R : Ranged z) where
         (order p (place + count)))
         (order p place)
 
-    written-other : (b p : ℕ) → (b ≡ node → ⊥) → b < z.nodes → p < z.places → t b p ≡ over K count new (numbered z t) (place_number z b p)
-    written-other b p ne hb l =
+    written_other : (b p : ℕ) → (b ≡ node → ⊥) → b < z.nodes → p < z.places → t b p ≡ over K count new (numbered z t) (place_number z b p)
+    written_other b p ne hb l =
         ⊎_elim
         (λ (a : b < node).
         sym (over_below K count new (numbered z t) (place_number z b p) (omega (arith, mul-le-mul_right z.places a)) ∙ numbered_at t b p hb l))
@@ -81,8 +81,8 @@ module _ (z : Sizes) (R : Ranged z) where
     unfolding written
     written_at b p hb l =
         elim (ℕ_discrete b node) [
-          | yes w ↦ rw (w, eq-eqb node node refl) (written-own p l)
-          | no w ↦ rw (ne_eqb b node w) (written-other b p w hb l)
+          | yes w ↦ rw (w, eq-eqb node node refl) (written_own p l)
+          | no w ↦ rw (ne_eqb b node w) (written_other b p w hb l)
         ]
 
     past : (k : ℕ) → place_count z ≤ k → numbered z T' k ≡ over K count new (numbered z t) k
@@ -131,23 +131,23 @@ repaired_fine z t helpers q gammas thetas k =
     (length_tab z.m _, λ e h. rw (tab_at z.m _ e (rw length_tab at h)) (sum_lt 8 (length helpers) _ (λ i hi. sum_lt 8 q _ (λ j hj. times_lt _ _))))
 
 module _ (g : Given) where
-  effect-fine : (t : Table) → AllFine g.z t → (c : Call) → table_answer g.z t c ≡ Done → TakesOne g c → AllFine g.z (table_effect g.z t c)
+  effect_fine : (t : Table) → AllFine g.z t → (c : Call) → table_answer g.z t c ≡ Done → TakesOne g c → AllFine g.z (table_effect g.z t c)
   unfolding answer_for
-  effect-fine t ht (encode node place file padding key row) e o =
+  effect_fine t ht (encode node place file padding key row) e o =
       written_fine g.z node place _ _ t
       (λ j. (same (length row) g.z.m (none_at _ 3 (accepted _ _ _ e).0), o.3)) ht
-  effect-fine t ht (lose node) e o = written_fine g.z node 0 _ _ t (λ j. tt) ht
-  effect-fine t ht (repair target helpers q gammas thetas scratch) e o =
+  effect_fine t ht (lose node) e o = written_fine g.z node 0 _ _ t (λ j. tt) ht
+  effect_fine t ht (repair target helpers q gammas thetas scratch) e o =
       written_fine g.z target 0 _ _ t (λ k. repaired_fine g.z t helpers q gammas thetas k) ht
 
-  after-fine : (t : Table) → AllFine g.z t → (c : Call) → (table_answer g.z t c ≡ Done → TakesOne g c) → AllFine g.z (table_after g.z t c)
+  after_fine : (t : Table) → AllFine g.z t → (c : Call) → (table_answer g.z t c ≡ Done → TakesOne g c) → AllFine g.z (table_after g.z t c)
   unfolding afterwards
-  after-fine t ht c o = go (table_answer g.z t c) refl
+  after_fine t ht c o = go (table_answer g.z t c) refl
     where
       go : (a : Outcome) → table_answer g.z t c ≡ a → AllFine g.z (afterwards a t (table_effect g.z t c))
-      go Done e = effect-fine t ht c e (o e)
+      go Done e = effect_fine t ht c e (o e)
       go (Refused r) e = ht
 
   pub run_fine : (t : Table) → AllFine g.z t → (calls : List Call) → Admitted g t calls → AllFine g.z (table_run g.z t calls)
   run_fine t ht [] a = ht
-  run_fine t ht (c ∷ cs) a = run_fine (table_after g.z t c) (after-fine t ht c a.0) cs a.1
+  run_fine t ht (c ∷ cs) a = run_fine (table_after g.z t c) (after_fine t ht c a.0) cs a.1

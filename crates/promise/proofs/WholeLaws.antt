@@ -58,12 +58,12 @@ module _ (s : List ℕ) (are-bytes : Bytes s) (good : bad_archive s ≡ false) w
   abbrev Kept : (keep : ℕ → Bool) (t : List ℕ) → Type 0
   Kept keep t = Parts z s (mark keep) (rec keep) t
 
-  kept-unused : (keep : ℕ → Bool) → Unused z (mark keep)
-  kept-unused keep k l h = ap (λ (x : Bool). pick (keep (k / z.places)) x false) (unused k l h) ∙ pick_same (keep (k / z.places)) false
+  kept_unused : (keep : ℕ → Bool) → Unused z (mark keep)
+  kept_unused keep k l h = ap (λ (x : Bool). pick (keep (k / z.places)) x false) (unused k l h) ∙ pick_same (keep (k / z.places)) false
 
   -- the same nodes pass
-  kept-alike : {keep keep' : ℕ → Bool} {t : List ℕ} → ((v : ℕ) → keep v ≡ keep' v) → Kept keep t → Kept keep' t
-  kept-alike e w =
+  kept_alike : {keep keep' : ℕ → Bool} {t : List ℕ} → ((v : ℕ) → keep v ≡ keep' v) → Kept keep t → Kept keep' t
+  kept_alike e w =
       parts_alike w (λ k h. ap (λ (b : Bool). pick b (mark_at s k) false) (e (k / z.places)))
       (λ k p h hp. ap (λ (b : Bool). pick b (byte_in z s k p) 0) (e (k / z.places)))
 
@@ -87,7 +87,7 @@ module _ (s : List ℕ) (are-bytes : Bytes s) (good : bad_archive s ≡ false) w
       (λ (l : k < place_count z). rw (outside set k l) (turned (holds set (k / z.places)) (mark_at s k) false))
       (λ (l : place_count z ≤ k).
       ap (pick (holds (others s set) (k / z.places)) false) (unused k l h) ∙ pick_same (holds (others s set) (k / z.places)) false
-      ∙ sym (kept-unused (holds set) k l h))
+      ∙ sym (kept_unused (holds set) k l h))
       (order k (place_count z)))
       (λ k p h hp. rw (outside set k h) (turned (holds set (k / z.places)) (byte_in z s k p) 0))
 
@@ -97,24 +97,24 @@ module _ (s : List ℕ) (are-bytes : Bytes s) (good : bad_archive s ≡ false) w
     abbrev share : List ℕ
     share = share_of s node
 
-    no-mark : (place : ℕ) → place < z.places → mark keep (place_number z node place) ≡ false
-    no-mark place h = rw (digits_div node h, empty)
+    no_mark : (place : ℕ) → place < z.places → mark keep (place_number z node place) ≡ false
+    no_mark place h = rw (digits_div node h, empty)
 
     done : gather_answer into share node ≡ Done
-    done = gather_done s refl good w (keeps (node ∷ [])) (kept-unused keep) (kept-unused (holds (node ∷ []))) node there no-mark
+    done = gather_done s refl good w (keeps (node ∷ [])) (kept_unused keep) (kept_unused (holds (node ∷ []))) node there no_mark
 
     after : gather_after into share node ≡ gathered z into share node
-    after = after_gather s refl good w (keeps (node ∷ [])) (kept-unused keep) (kept-unused (holds (node ∷ []))) node there no-mark
+    after = after_gather s refl good w (keeps (node ∷ [])) (kept_unused keep) (kept_unused (holds (node ∷ []))) node there no_mark
 
     next : Kept (λ v. pick (eqb v node) true (keep v)) (gather_after into share node)
     next =
         subst (Kept (λ v. pick (eqb v node) true (keep v))) (sym after)
-        (parts_alike (gathered_parts s refl good w (keeps (node ∷ [])) (kept-unused keep) (kept-unused (holds (node ∷ []))) node there)
+        (parts_alike (gathered_parts s refl good w (keeps (node ∷ [])) (kept_unused keep) (kept_unused (holds (node ∷ []))) node there)
         (λ k h. joined (eqb (k / z.places) node) (keep (k / z.places)) (mark_at s k) false)
         (λ k p h hp. joined (eqb (k / z.places) node) (keep (k / z.places)) (byte_in z s k p) 0))
 
-    next-tidy : Tidy (gather_after into share node)
-    next-tidy = subst Tidy (sym after) (stored_tidy z _ _ _ _ into (omega (arith, w.size)))
+    next_tidy : Tidy (gather_after into share node)
+    next_tidy = subst Tidy (sym after) (stored_tidy z _ _ _ _ into (omega (arith, w.size)))
 
   -- ---- Gather of all shares of a set
 
@@ -132,24 +132,24 @@ module _ (s : List ℕ) (are-bytes : Bytes s) (good : bad_archive s ≡ false) w
       go true q = absurd (true≢false (sym h ∙ ap (holds set) (eqb-true v node q) ∙ once))
       go false q = none v (rw q h)
 
-  gather-all : (set : List ℕ) (keep : ℕ → Bool) (into : List ℕ) → Kept keep into → Tidy into → EachOnce z set
+  gather_all : (set : List ℕ) (keep : ℕ → Bool) (into : List ℕ) → Kept keep into → Tidy into → EachOnce z set
       → ((v : ℕ) → holds set v ≡ true → keep v ≡ false) → Gathers keep into set
-  gather-all [] keep into w low once none = record { all_done = tt; parts = w; bytes = low }
-  gather-all (node ∷ set) keep into w low once none =
+  gather_all [] keep into w low once none = record { all_done = tt; parts = w; bytes = low }
+  gather_all (node ∷ set) keep into w low once none =
       let empty : keep node ≡ false = none node (rw (eq-eqb node node refl)) in
       let rest =
-      gather-all set (λ v. pick (eqb v node) true (keep v)) (gather_after into (share_of s node) node) (next keep into w node once.0 empty)
-      (next-tidy keep into w node once.0 empty) once.2 (apart keep node set once.1 none) in
+      gather_all set (λ v. pick (eqb v node) true (keep v)) (gather_after into (share_of s node) node) (next keep into w node once.0 empty)
+      (next_tidy keep into w node once.0 empty) once.2 (apart keep node set once.1 none) in
       record {
         all_done = (done keep into w node once.0 empty, rest.all_done);
-        parts = kept-alike (λ v. both (holds set v) (eqb v node) true (keep v)) rest.parts;
+        parts = kept_alike (λ v. both (holds set v) (eqb v node) true (keep v)) rest.parts;
         bytes = rest.bytes;
       }
 
   whole : (set : List ℕ) → EachOnce z set → Whole s set
   whole set once =
-      let from = gather-all set (holds []) (keeping s []) (keeps []) ((run []).tidy tidy) once (λ v h. refl) in
-      let made : Kept (holds set) (gather_run s (keeping s []) set) = kept-alike (λ v. pick_test (holds set v)) from.parts in
+      let from = gather_all set (holds []) (keeping s []) (keeps []) ((run []).tidy tidy) once (λ v h. refl) in
+      let made : Kept (holds set) (gather_run s (keeping s []) set) = kept_alike (λ v. pick_test (holds set v)) from.parts in
       record {
         loses_done = λ kept. (run kept).done;
         gathers_done = from.all_done;
@@ -160,7 +160,7 @@ module _ (s : List ℕ) (are-bytes : Bytes s) (good : bad_archive s ≡ false) w
             (λ k h.
             ⊎_elim
             (λ (l : k < place_count z). rw (every (k / z.places) (node_of z R k l)))
-            (λ (l : place_count z ≤ k). kept-unused (holds set) k l h ∙ sym (unused k l h))
+            (λ (l : place_count z ≤ k). kept_unused (holds set) k l h ∙ sym (unused k l h))
             (order k (place_count z)))
             (λ k p h hp. rw (every (k / z.places) (node_of z R k h))))
             (parts_own z s (good_length s good)) from.bytes tidy;

@@ -40,8 +40,8 @@ module _ (s message : List ℕ) (good : bad_archive s ≡ false) (ok : malformed
   abbrev named : ℕ → ℕ
   named j = place_number z c.node (at c.places j)
 
-  named-there : (j : ℕ) → j < count → named j < place_count z
-  named-there j h =
+  named_there : (j : ℕ) → j < count → named j < place_count z
+  named_there j h =
       number_low z (good_sizes s good) c.node (at c.places j) (leb-false _ _ (none_at _ 0 there)) (place_there z message there j h)
 
   -- as code computes it
@@ -50,7 +50,7 @@ module _ (s message : List ℕ) (good : bad_archive s ≡ false) (ok : malformed
     number_is = rw (e, f, g, ← (readable message ok).place_is j h)
 
     pub number_fits : node * sizes.places + p < 48
-    number_fits = omega (arith, number_is, named-there j h, count_low z (good_sizes s good))
+    number_fits = omega (arith, number_is, named_there j h, count_low z (good_sizes s good))
 
   -- the records of the named node, as code finds them
   module _ {sizes : Sizes} {node start len : ℕ} (e : sizes ≡ z) (f : node ≡ c.node) (a : start ≡ record_start sizes (node * sizes.places))
@@ -58,11 +58,11 @@ module _ (s message : List ℕ) (good : bad_archive s ≡ false) (ok : malformed
     start_is : start ≡ record_start z (c.node * z.places)
     start_is = a ∙ rw (e, f)
 
-    length-is : len ≡ record_length z
-    length-is = l ∙ ap record_length e
+    length_is : len ≡ record_length z
+    length_is = l ∙ ap record_length e
 
     pub records_there : (j : ℕ) → j < count → start + at c.places j * len + len ≤ length s
-    records_there j h = rw (start_is, length-is, good_length s good) (omega (arith, record_fits z (named j) (named-there j h)))
+    records_there j h = rw (start_is, length_is, good_length s good) (omega (arith, record_fits z (named j) (named_there j h)))
 
     -- those of the named places, as they were added to zeros
     pub records_named : {t : List ℕ} → t ≡ added len 0 (first_named c s start len count) (replicate record_most 0)
@@ -70,5 +70,5 @@ module _ (s message : List ℕ) (good : bad_archive s ≡ false) (ok : malformed
     unfolding named_byte byte_in
     records_named made i h =
         let R = good_sizes s good in
-        named_read c s start record_most len _ (omega (arith, length-is, R.n_high, R.m_high, R.tags_high)) made
-        (λ j p. ap (at s) (rw (start_is, length-is) (omega arith))) i (omega (arith, length-is))
+        named_read c s start record_most len _ (omega (arith, length_is, R.n_high, R.m_high, R.tags_high)) made
+        (λ j p. ap (at s) (rw (start_is, length_is) (omega arith))) i (omega (arith, length_is))

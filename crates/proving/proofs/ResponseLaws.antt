@@ -51,39 +51,39 @@ module _ (n tags : ℕ) (combined key id seed lent : List ℕ) (head : ℕ) (siz
           -- what is read after the last store
           module _ (m : ℕ) (low : 3 ≤ n) {f : List ℕ} (x : f ≡ put tags (n + tags + 12) (λ i. at combined (n + m + i)) e) where
             -- the later stores keep what stands before them
-            kept-summed : (k : ℕ) → k < n + tags + 10 → at f k ≡ at g k
-            kept-summed k h =
+            kept_summed : (k : ℕ) → k < n + tags + 10 → at f k ≡ at g k
+            kept_summed k h =
                 ap (λ (l : List ℕ). at l k) x ∙ put_below tags (n + tags + 12) _ e k (omega arith) ∙ ap (λ (l : List ℕ). at l k) w
                 ∙ put_below 2 (n + tags + 10) _ g k h
 
-            kept-seeded : (k : ℕ) → k < n + 10 → at f k ≡ at d k
-            kept-seeded k h = kept-summed k (omega arith) ∙ ap (λ (l : List ℕ). at l k) t ∙ put_below tags (sum_at n 0) total d k (omega arith)
+            kept_seeded : (k : ℕ) → k < n + 10 → at f k ≡ at d k
+            kept_seeded k h = kept_summed k (omega arith) ∙ ap (λ (l : List ℕ). at l k) t ∙ put_below tags (sum_at n 0) total d k (omega arith)
 
-            kept-masked : (k : ℕ) → k < n - 1 → at f k ≡ at b k
-            kept-masked k h = kept-seeded k (omega arith) ∙ ap (λ (l : List ℕ). at l k) r ∙ put_below 11 (n - 1) _ b k h
+            kept_masked : (k : ℕ) → k < n - 1 → at f k ≡ at b k
+            kept_masked k h = kept_seeded k (omega arith) ∙ ap (λ (l : List ℕ). at l k) r ∙ put_below 11 (n - 1) _ b k h
 
             first : at f 0 ≡ head
             first =
-                kept-masked 0 (omega arith) ∙ ap (λ (l : List ℕ). at l 0) q ∙ added_below (n - 2) 1 hidden a 0 (omega arith)
+                kept_masked 0 (omega arith) ∙ ap (λ (l : List ℕ). at l 0) q ∙ added_below (n - 2) 1 hidden a 0 (omega arith)
                 ∙ ap (λ (l : List ℕ). at l 0) p ∙ put_below (n - 2) 1 _ headed 0 (omega arith) ∙ get_or-set_same lent 0 head 0 (omega arith)
 
             middle : (i : ℕ) → i < n - 2 → at f (1 + i) ≡ plus (at combined i) (hidden i)
             middle i h =
                 let z : 0 + i ≡ i = omega arith in
-                kept-masked (1 + i) (omega arith) ∙ ap (λ (l : List ℕ). at l (1 + i)) q ∙ added_at (n - 2) 1 hidden a i h (omega (arith, filled_length p))
+                kept_masked (1 + i) (omega arith) ∙ ap (λ (l : List ℕ). at l (1 + i)) q ∙ added_at (n - 2) 1 hidden a i h (omega (arith, filled_length p))
                 ∙ ap (λ (x : ℕ). plus x (hidden i))
                 (ap (λ (l : List ℕ). at l (1 + i)) p ∙ put_at (n - 2) 1 _ headed i h (omega (arith, headed_length)) ∙ ap (at combined) z)
 
             after : (i : ℕ) → i < 11 → at f (n - 1 + i) ≡ at seed i
             after i h =
                 let z : 0 + i ≡ i = omega arith in
-                kept-seeded (n - 1 + i) (omega arith) ∙ ap (λ (l : List ℕ). at l (n - 1 + i)) r ∙ put_at 11 (n - 1) _ b i h (omega (arith, masked_length))
+                kept_seeded (n - 1 + i) (omega arith) ∙ ap (λ (l : List ℕ). at l (n - 1 + i)) r ∙ put_at 11 (n - 1) _ b i h (omega (arith, masked_length))
                 ∙ ap (at seed) z
 
             sums : (k : ℕ) → k < tags → at f (sum_at n k) ≡ total k
             sums k h =
                 let z : n + 10 + k ≡ sum_at n 0 + k = omega arith in
-                kept-summed (n + 10 + k) (omega arith) ∙ ap (at g) z ∙ ap (λ (l : List ℕ). at l (sum_at n 0 + k)) t
+                kept_summed (n + 10 + k) (omega arith) ∙ ap (at g) z ∙ ap (λ (l : List ℕ). at l (sum_at n 0 + k)) t
                 ∙ put_at tags (sum_at n 0) total d k h (omega (arith, seeded_length))
 
             clear : (i : ℕ) → i < 2 → at f (clear_start n tags + i) ≡ at combined (n - 2 + i)

@@ -35,9 +35,9 @@ module _ (z : Sizes) (s : List ℕ) (c : Chosen) (chosen : ChosenIn z s (mark_at
 
   module _ (R : Ranged z) (low : (i : ℕ) → at s i < 256) (full : rank ≡ z.m) where
     -- the blocks solve for what the listed places hold
-    block-solves : (e r : ℕ) → r < c.count → product z.m (listed_rows (row_in z s) c r) (λ i. block i e) ≡ byte_in z s (at c.numbers r) e
+    block_solves : (e r : ℕ) → r < c.count → product z.m (listed_rows (row_in z s) c r) (λ i. block i e) ≡ byte_in z s (at c.numbers r) e
     unfolding product mixed byte_in
-    block-solves e r h =
+    block_solves e r h =
         let all = count_full _ _ _ _ c chosen t rank reduced full in
         let column : ℕ → ℕ = λ r. byte_in z s (at c.numbers r) e in
         product_keys z.m (listed_rows (row_in z s) c r) (λ i. block i e) (λ i. product c.count (t i) column) (λ i l. ap (λ (n : ℕ). product n (t i) column) (sym all))
@@ -62,7 +62,7 @@ module _ (z : Sizes) (s : List ℕ) (c : Chosen) (chosen : ChosenIn z s (mark_at
               solves = λ k e h q he.
                   product_keys z.m (row_in z s k) _ (λ i. block i e) (λ i l. flat_at z.m (z.n - 2) block i e l he)
                   ∙ subst (λ (p : ℕ). product z.m (row_in z s p) (λ i. block i e) ≡ byte_in z s p e) (taken_listed _ _ _ _ c chosen k q)
-                  (block-solves e (how_many k taken) (listed_low _ _ _ _ c chosen k q));
+                  (block_solves e (how_many k taken) (listed_low _ _ _ _ c chosen k q));
             }
 
   -- ---- the answers

@@ -63,25 +63,25 @@ module _ (z : Sizes) (s : List ℕ) (filled : ℕ → Bool) (c : Chosen) (chosen
     low : (j : ℕ) → is_taken j ≡ true → j < chosen.end
     low = taken_low _ _ _ _ c chosen
 
-    taken-filled : (j : ℕ) → is_taken j ≡ true → filled j ≡ true
-    taken-filled j e = chosen.choice.takes.candidates j (low j e) e
+    taken_filled : (j : ℕ) → is_taken j ≡ true → filled j ≡ true
+    taken_filled j e = chosen.choice.takes.candidates j (low j e) e
 
     -- the places taken suffice
-    not-blind : (named : ℕ → Bool) → ((j : ℕ) → is_taken j ≡ true → named j ≡ true) → ¬ Blind z named (row_in z s)
-    not-blind named all b =
+    not_blind : (named : ℕ → Bool) → ((j : ℕ) → is_taken j ≡ true → named j ≡ true) → ¬ Blind z named (row_in z s)
+    not_blind named all b =
         b.one_not
         (determined _ _ _ _ c chosen t rank reduced full b.v b.bytes
         (λ j e. b.orthogonal j (omega (arith, low j e, chosen.there)) (all j e)) b.one b.one_there)
 
     pub readable : ¬ Blind z filled (row_in z s)
-    readable = not-blind filled taken-filled
+    readable = not_blind filled taken_filled
 
     -- a taken place is one of those consulted
-    taken-among : (j : ℕ) → is_taken j ≡ true → among c.consulted filled j ≡ true
-    taken-among j e =
+    taken_among : (j : ℕ) → is_taken j ≡ true → among c.consulted filled j ≡ true
+    taken_among j e =
         let before : how_many j filled < c.consulted =
-        rw chosen.choice.consulted (how_many_less j chosen.end filled (low j e) (taken-filled j e)) in
-        rw (taken-filled j e) (lt-ltb _ _ before)
+        rw chosen.choice.consulted (how_many_less j chosen.end filled (low j e) (taken_filled j e)) in
+        rw (taken_filled j e) (lt-ltb _ _ before)
 
     pub enough : Enough z filled (row_in z s) c.consulted
     enough =
@@ -92,8 +92,8 @@ module _ (z : Sizes) (s : List ℕ) (filled : ℕ → Bool) (c : Chosen) (chosen
                 count_full _ _ _ _ c chosen t rank reduced full,
                 chosen.choice.number,
                 chosen.choice.consulted,
-                how_many_within chosen.end is_taken filled (λ j l. taken-filled j),
+                how_many_within chosen.end is_taken filled (λ j l. taken_filled j),
               );
           most = rw chosen.choice.consulted (how_many_mono chosen.end (place_count z) filled chosen.there);
-          suffice = not-blind (among c.consulted filled) taken-among;
+          suffice = not_blind (among c.consulted filled) taken_among;
         }

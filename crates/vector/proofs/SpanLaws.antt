@@ -45,15 +45,15 @@ module _ (k m : ℕ) (row : ℕ → ℕ → ℕ) where
           ∙ ap (λ (t : Bool). times (pick t 1 0) (row j i)) (eq-eqb j j refl) ∙ one_times (bytes i l)
 
   -- a combination of combinations
-  spanned-mixed : (n : ℕ) (c : ℕ → ℕ) (a : ℕ → ℕ → ℕ) → ((j : ℕ) → j < n → Spanned k m row (a j)) → Spanned k m row (mixed n c a)
+  spanned_mixed : (n : ℕ) (c : ℕ → ℕ) (a : ℕ → ℕ → ℕ) → ((j : ℕ) → j < n → Spanned k m row (a j)) → Spanned k m row (mixed n c a)
   unfolding mixed
-  spanned-mixed zero c a h = spanned_zero (λ i l. sym (sum_none _))
-  spanned-mixed (suc n) c a h =
+  spanned_mixed zero c a h = spanned_zero (λ i l. sym (sum_none _))
+  spanned_mixed (suc n) c a h =
       spanned_same (λ i l. sum_last n (λ j. times (c j) (a j i)))
-      (spanned_plus (spanned-mixed n c a (λ j l. h j (omega arith))) (spanned_scale (c n) (h n (omega arith))))
+      (spanned_plus (spanned_mixed n c a (λ j l. h j (omega arith))) (spanned_scale (c n) (h n (omega arith))))
 
   pub spanned_through : (n : ℕ) (a : ℕ → ℕ → ℕ) {v : ℕ → ℕ} → ((j : ℕ) → j < n → Spanned k m row (a j)) → Spanned n m a v → Spanned k m row v
-  spanned_through n a h s = spanned_same s.1 (spanned-mixed n s.0 a h)
+  spanned_through n a h s = spanned_same s.1 (spanned_mixed n s.0 a h)
 
   -- a vector that is orthogonal to the rows is orthogonal to their combinations
   pub spanned_orthogonal : (x : ℕ → ℕ) → ((j : ℕ) → j < k → product m (row j) x ≡ 0) → {v : ℕ → ℕ} → Spanned k m row v → product m v x ≡ 0

@@ -51,9 +51,9 @@ takes_alike count m row row' candidate candidate' taken same agree t =
 
 module _ (m : ℕ) (row : ℕ → ℕ → ℕ) (candidate : ℕ → Bool) (count : ℕ) where
   -- where two agree before k, one does not take k alone
-  not-alone : (taken taken' : ℕ → Bool) → Takes m row candidate count taken → Takes m row candidate count taken'
+  not_alone : (taken taken' : ℕ → Bool) → Takes m row candidate count taken → Takes m row candidate count taken'
       → (k : ℕ) → k < count → Agree taken taken' k → taken k ≡ true → taken' k ≡ false → ⊥
-  not-alone taken taken' t t' k h agree p q =
+  not_alone taken taken' t t' k h agree p q =
       t.independent k h p (combined_same m row taken' taken k (λ j l. sym (agree j l)) (t'.every k h (t.candidates k h p) q))
 
   module _ (taken taken' : ℕ → Bool) (t : Takes m row candidate count taken) (t' : Takes m row candidate count taken') where
@@ -62,27 +62,27 @@ module _ (m : ℕ) (row : ℕ → ℕ → ℕ) (candidate : ℕ → Bool) (count
       where
         go : (x y : Bool) → taken k ≡ x → taken' k ≡ y → x ≡ y
         go true true p q = refl
-        go true false p q = absurd (not-alone taken taken' t t' k h agree p q)
-        go false true p q = absurd (not-alone taken' taken t' t k h (λ j l. sym (agree j l)) q p)
+        go true false p q = absurd (not_alone taken taken' t t' k h agree p q)
+        go false true p q = absurd (not_alone taken' taken t' t k h (λ j l. sym (agree j l)) q p)
         go false false p q = refl
 
-    agree-below : (k : ℕ) → k ≤ count → Agree taken taken' k
-    agree-below zero h j l = absurd (omega arith)
-    agree-below (suc k) h j l =
+    agree_below : (k : ℕ) → k ≤ count → Agree taken taken' k
+    agree_below zero h j l = absurd (omega arith)
+    agree_below (suc k) h j l =
         ⊎_elim
-        (λ (e : j ≡ k). rw e (agree_at k h (agree-below k (omega arith))))
-        (λ (b : j < k). agree-below k (omega arith) j b)
+        (λ (e : j ≡ k). rw e (agree_at k h (agree_below k (omega arith))))
+        (λ (b : j < k). agree_below k (omega arith) j b)
         (eq-or-lt_of_le (le_of_suc-le-suc l))
 
     pub taken_same : (k : ℕ) → k < count → taken k ≡ taken' k
-    taken_same = agree-below count (omega arith)
+    taken_same = agree_below count (omega arith)
 
 -- ---- a vector orthogonal to the rows taken
 
 module _ (m : ℕ) (row : ℕ → ℕ → ℕ) (candidate : ℕ → Bool) (count : ℕ) (taken : ℕ → Bool) (takes : Takes m row candidate count taken) (v : ℕ → ℕ)
     (zeros : (k : ℕ) → k < count → taken k ≡ true → product m (row k) v ≡ 0) where
-  part-zero : (k : ℕ) → k < count → product m (only taken row k) v ≡ 0
-  part-zero k h = go (taken k) refl
+  part_zero : (k : ℕ) → k < count → product m (only taken row k) v ≡ 0
+  part_zero k h = go (taken k) refl
     where
       go : (x : Bool) → taken k ≡ x → product m (λ i. pick x (row k i) 0) v ≡ 0
       go true q = zeros k h q
@@ -93,7 +93,7 @@ module _ (m : ℕ) (row : ℕ → ℕ → ℕ) (candidate : ℕ → Bool) (count
     where
       go : (x : Bool) → taken k ≡ x → product m (row k) v ≡ 0
       go true q = zeros k h q
-      go false q = spanned_orthogonal k m (only taken row) v (λ j l. part-zero j (omega arith)) (takes.every k h f q)
+      go false q = spanned_orthogonal k m (only taken row) v (λ j l. part_zero j (omega arith)) (takes.every k h f q)
 
 -- ---- a combination of all rows before one
 
