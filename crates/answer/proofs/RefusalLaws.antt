@@ -10,15 +10,13 @@ use borrow.Author.Tests.{eq-eqb, ne_eqb, eqb-true, not-false, ltb-false, le-ltb}
 use Rattle.lists.specs.Lists.{any_of}
 use Rattle.lists.proofs.AnyLaws.{none_at, or_all, any_of_lem}
 use Rattle.answer.specs.declared.Refusal.{Refusal}
-use Rattle.answer.specs.declared.Outcome.{Outcome}
-use Rattle.answer.specs.declared.Outcome.TheVariants.{Done, Refused}
-use Rattle.answer.specs.declared.Counted.TheVariants.{Count, Refused as RefusedCount}
+use Rattle.answer.specs.Answer.{Outcome, done, Ok, Err}
 use Rattle.answer.specs.Numbers.{refusal_number}
 use Rattle.answer.specs.Counted.{counted}
 use Rattle.answer.specs.Refusals.{refuse, afterwards, differs, outside}
 
 -- a test that holds ends the chain, and one that fails hands it on
-pub refused : {b : Bool} (r : Refusal) (next : Outcome) → b ≡ true → refuse b r next ≡ Refused r
+pub refused : {b : Bool} (r : Refusal) (next : Outcome) → b ≡ true → refuse b r next ≡ Err r
 unfolding refuse
 refused r next e = rw e
 
@@ -40,44 +38,44 @@ differs_same {a} {b} e = rw (eq-eqb a b e)
 pub differs_other : {a b : ℕ} → (a ≡ b → ⊥) → differs a b ≡ true
 differs_other {a} {b} e = rw (ne_eqb a b e)
 
-pub after_done : {A : Type 0} {o : Outcome} (s t : A) → o ≡ Done → afterwards o s t ≡ t
+pub after_done : {A : Type 0} {o : Outcome} (s t : A) → o ≡ done → afterwards o s t ≡ t
 unfolding afterwards
 after_done s t e = rw e
 
-pub after_refused : {A : Type 0} {o : Outcome} {r : Refusal} (s t : A) → o ≡ Refused r → afterwards o s t ≡ s
+pub after_refused : {A : Type 0} {o : Outcome} {r : Refusal} (s t : A) → o ≡ Err r → afterwards o s t ≡ s
 unfolding afterwards
 after_refused s t e = rw e
 
 -- the end of an operation whose check answered: what the work made where it is done, and the buffer as it was where it is refused
-pub written : {A : Type 0} {o answer : Outcome} (before : A) {new w : A} → o ≡ answer → o ≡ Done → w ≡ new → w ≡ afterwards answer before new
-written before {new = new} is done made = made ∙ sym (after_done before new (sym is ∙ done))
+pub written : {A : Type 0} {o answer : Outcome} (before : A) {new w : A} → o ≡ answer → o ≡ done → w ≡ new → w ≡ afterwards answer before new
+written before {new = new} is e made = made ∙ sym (after_done before new (sym is ∙ e))
 
-pub kept : {A : Type 0} {o answer : Outcome} {r : Refusal} {before : A} (new : A) → o ≡ answer → o ≡ Refused r → before ≡ afterwards answer before new
+pub kept : {A : Type 0} {o answer : Outcome} {r : Refusal} {before : A} (new : A) → o ≡ answer → o ≡ Err r → before ≡ afterwards answer before new
 kept {before = before} new is refusal = sym (after_refused before new (sym is ∙ refusal))
 
 -- the end of an operation that counts
-pub count_written : {o : Outcome} {c k : ℕ} → o ≡ Done → c ≡ k → Count c ≡ counted o k
-count_written done e = rw (done, e) refl
+pub count_written : {o : Outcome} {c k : ℕ} → o ≡ done → c ≡ k → Ok c ≡ counted o k
+count_written d e = rw (d, e) refl
 
-pub count_kept : {o : Outcome} {r : Refusal} (k : ℕ) → o ≡ Refused r → RefusedCount r ≡ counted o k
+pub count_kept : {o : Outcome} {r : Refusal} (k : ℕ) → o ≡ Err r → Err r ≡ counted o k
 count_kept k refusal = rw refusal refl
 
-pub counted_written : {A : Type 0} {o : Outcome} {c k : ℕ} (before : A) {new w : A} → o ≡ Done → c ≡ k → w ≡ new
-    → (Count c ≡ counted o k) × (w ≡ afterwards o before new)
+pub counted_written : {A : Type 0} {o : Outcome} {c k : ℕ} (before : A) {new w : A} → o ≡ done → c ≡ k → w ≡ new
+    → (Ok c ≡ counted o k) × (w ≡ afterwards o before new)
 unfolding afterwards
-counted_written before done e made = (count_written done e, rw (done, made) refl)
+counted_written before d e made = (count_written d e, rw (d, made) refl)
 
-pub counted_kept : {A : Type 0} {o : Outcome} {r : Refusal} {before : A} (k : ℕ) (new : A) → o ≡ Refused r
-    → (RefusedCount r ≡ counted o k) × (before ≡ afterwards o before new)
+pub counted_kept : {A : Type 0} {o : Outcome} {r : Refusal} {before : A} (k : ℕ) (new : A) → o ≡ Err r
+    → (Err r ≡ counted o k) × (before ≡ afterwards o before new)
 unfolding afterwards
 counted_kept k new refusal = (count_kept k refusal, rw refusal refl)
 
-pub counted_done : (o : Outcome) {k c : ℕ} → counted o k ≡ Count c → (o ≡ Done) × (k ≡ c)
-counted_done Done e = (refl, cc)
-counted_done (Refused r) e = let q : ◌≡◌ {A = ℕ} 0 1 = cc in absurd (omega arith)
+pub counted_done : (o : Outcome) {k c : ℕ} → counted o k ≡ Ok c → (o ≡ done) × (k ≡ c)
+counted_done (Ok value) e = (refl, cc)
+counted_done (Err r) e = let q : ◌≡◌ {A = ℕ} 0 1 = cc in absurd (omega arith)
 
 -- what is known where nothing was refused
-pub accepted : (b : Bool) (r : Refusal) (next : Outcome) → refuse b r next ≡ Done → (b ≡ false) × (next ≡ Done)
+pub accepted : (b : Bool) (r : Refusal) (next : Outcome) → refuse b r next ≡ done → (b ≡ false) × (next ≡ done)
 unfolding refuse
 accepted true r next e = let q : ◌≡◌ {A = ℕ} 0 1 = cc in absurd (omega arith)
 accepted false r next e = (refl, e)
@@ -104,14 +102,14 @@ unfolding outside any_of
 not_outside lo hi x a b = rw (le-ltb x lo a, le-ltb hi x b)
 
 -- one chain of tests has one answer
-pub never_both : {o : Outcome} {r : Refusal} → o ≡ Done → o ≡ Refused r → ⊥
+pub never_both : {o : Outcome} {r : Refusal} → o ≡ done → o ≡ Err r → ⊥
 never_both p q = let x : ◌≡◌ {A = ℕ} 0 1 = cc in omega arith
 
-pub same_refusal : {o : Outcome} {r r' : Refusal} → o ≡ Refused r → o ≡ Refused r' → r ≡ r'
+pub same_refusal : {o : Outcome} {r r' : Refusal} → o ≡ Err r → o ≡ Err r' → r ≡ r'
 same_refusal p q = cc
 
 -- a refusal of another number came after
-pub skipped : (b : Bool) (r : Refusal) (next : Outcome) {r' : Refusal} → refusal_number r ≢ refusal_number r' → refuse b r next ≡ Refused r' → next ≡ Refused r'
+pub skipped : (b : Bool) (r : Refusal) (next : Outcome) {r' : Refusal} → refusal_number r ≢ refusal_number r' → refuse b r next ≡ Err r' → next ≡ Err r'
 unfolding refuse
 skipped true r next n e = absurd (n (ap refusal_number (same_refusal refl e)))
 skipped false r next n e = e

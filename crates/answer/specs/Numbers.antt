@@ -3,8 +3,7 @@ use Rattle.std.specs.Prelude.{ℕ, ◌≡◌}
 use Rattle.answer.specs.declared.Refusal.{Refusal}
 use Rattle.answer.specs.declared.Refusal.TheVariants.{Size, Length, BadArchive, NoSuchPlace, PlaceEmpty}
 use Rattle.answer.specs.declared.Refusal.TheVariants.{PlaceFilled, ZeroKeyVector, Unreadable, Malformed, ProvesNothing, NoPlan}
-use Rattle.answer.specs.declared.Outcome.{Outcome}
-use Rattle.answer.specs.declared.Outcome.TheVariants.{Done, Refused}
+use Rattle.answer.specs.Answer.{Answer, Outcome, Ok, Err}
 
 abbrev pub refusal_number : Refusal → ℕ
 refusal_number Size = 1
@@ -20,12 +19,12 @@ refusal_number ProvesNothing = 11
 refusal_number NoPlan = 12
 
 -- 0 is no refusal's number: it says that the work is done
-abbrev pub outcome_number : Outcome → ℕ
-outcome_number Done = 0
-outcome_number (Refused r) = refusal_number r
+abbrev pub answer_number : {A : Type 0} → Answer A → ℕ
+answer_number (Ok value) = 0
+answer_number (Err r) = refusal_number r
 
 -- the number of an answer that is allowed
 pub record NumberedAnswer (Allowed : Outcome → Type 0) (number : ℕ) : Type 0 where
   pub answer : Outcome
   pub allowed : Allowed answer
-  pub its_number : number ≡ outcome_number answer
+  pub its_number : number ≡ answer_number answer

@@ -1,13 +1,12 @@
-// What an operation answers: done, or the first refusal that applies.
+// What an operation answers: a value, or the first refusal that applies.
 #![tactic(auto)]
 
 ghost use Rattle.std.specs.Prelude.{◌≡◌};
-ghost use Rattle.answer.specs.Numbers.{refusal_number, outcome_number};
+ghost use Rattle.answer.specs.Numbers.{refusal_number, answer_number};
 ghost use Rattle.answer.specs.Refusals as Refusals;
-ghost use Rattle.answer.specs.Counted.{counted_number};
 
 // The refusals, each with its number. No refusal has the number 10.
-#[derive(Clone, Copy)]
+#[derive(Clone, Copy, Debug, PartialEq, Eq)]
 pub enum Refusal {
     // 1: a size outside its range.
     Size,
@@ -33,10 +32,34 @@ pub enum Refusal {
     NoPlan,
 }
 
-#[derive(Clone, Copy)]
-pub enum Outcome {
-    Done,
-    Refused(Refusal),
+impl From<Refusal> for u8 {
+    ghost from_gives = { λ r n. n ≡ refusal_number r };
+
+    fn from(refusal: Refusal) -> u8 {
+        match refusal {
+            Refusal::Size => 1,
+            Refusal::Length => 2,
+            Refusal::BadArchive => 3,
+            Refusal::NoSuchPlace => 4,
+            Refusal::PlaceEmpty => 5,
+            Refusal::PlaceFilled => 6,
+            Refusal::ZeroKeyVector => 7,
+            Refusal::Unreadable => 8,
+            Refusal::Malformed => 9,
+            Refusal::ProvesNothing => 11,
+            Refusal::NoPlan => 12,
+        }
+    }
+}
+
+// 0 for what is done, whatever its value, else the refusal's number.
+pub fn number<T: Copy>(answer: Result<T, Refusal>) -> u8
+    ensures { result ≡ answer_number answer }
+{
+    match answer {
+        Ok(_) => 0,
+        Err(refusal) => u8::from(refusal),
+    }
 }
 
 // Whether x is below lo or above hi.
@@ -44,50 +67,4 @@ pub fn outside(lo: usize, hi: usize, x: usize) -> bool
     ensures { result ≡ Refusals.outside lo hi x }
 {
     (x < lo) | (hi < x)
-}
-
-// The number of a refusal.
-pub fn refusal_number(r: Refusal) -> u8
-    ensures { result ≡ refusal_number r }
-{
-    match r {
-        Refusal::Size => 1,
-        Refusal::Length => 2,
-        Refusal::BadArchive => 3,
-        Refusal::NoSuchPlace => 4,
-        Refusal::PlaceEmpty => 5,
-        Refusal::PlaceFilled => 6,
-        Refusal::ZeroKeyVector => 7,
-        Refusal::Unreadable => 8,
-        Refusal::Malformed => 9,
-        Refusal::ProvesNothing => 11,
-        Refusal::NoPlan => 12,
-    }
-}
-
-// 0 for done, else the refusal's number.
-pub fn number(o: Outcome) -> u8
-    ensures { result ≡ outcome_number o }
-{
-    match o {
-        Outcome::Done => 0,
-        Outcome::Refused(r) => refusal_number(r),
-    }
-}
-
-// What Read and Inventory answer: a number (of filled places consulted, or of filled places), or a refusal.
-#[derive(Clone, Copy)]
-pub enum Counted {
-    Count(usize),
-    Refused(Refusal),
-}
-
-// 0 for a count, else the refusal's number.
-pub fn counted_number(c: Counted) -> u8
-    ensures { result ≡ counted_number c }
-{
-    match c {
-        Counted::Count(k) => 0,
-        Counted::Refused(r) => refusal_number(r),
-    }
 }

@@ -1,13 +1,13 @@
 -- What decides whether an archive is bad, test by test. Assumes nothing.
 use Prim.Native.Nat.{ℕ, ◌<◌}
 use mathlib.Core.Path.{◌≡◌, sym, ◌∙◌}
-use mathlib.Core.Bool.{Bool, true, false, ◌&&◌, ◌||◌}
+use mathlib.Core.Bool.{Bool, true, false, ◌||◌}
 use mathlib.Core.List.{List, [], ◌∷◌}
 use native.Mathlib.Omega.{arith}
 use lib.Dec.{leb}
 use lib.ListN.{length}
 use Rattle.lists.specs.Lists.{pick, any_of, any_below}
-use Rattle.lists.proofs.AnyLaws.{any_here, any_there, any_last, or_false, any_of_lem, any_append, both_pick}
+use Rattle.lists.proofs.AnyLaws.{any_here, any_there, any_last, or_false, any_of_lem, any_append}
 use Rattle.answer.specs.Refusals.{differs}
 use Rattle.answer.proofs.RefusalLaws.{differs_same, differs_other}
 use Rattle.bits.specs.Fields.{field_at}
@@ -16,12 +16,9 @@ use Rattle.sizes.specs.Sizes.{sizes_outside}
 use Rattle.sizes.specs.Lengths.{place_count, archive_length}
 use Rattle.archive.specs.Layout.{layout_outside, tag_field, layout_of, sizes_of, mark_at, bad_for, bad_archive}
 
--- mark k is set, and belongs to none of the first `count` places; the same, as code tests it
+-- mark k is set, and belongs to none of the first `count` places
 abbrev pub spare_mark : List ℕ → ℕ → ℕ → Bool
 spare_mark s count k = pick (leb count k) (mark_at s k) false
-
-pub spare_tested : (s : List ℕ) (count k : ℕ) {x t : Bool} → x ≡ mark_at s k → (leb count k && x) ≡ t → spare_mark s count k ≡ t
-spare_tested s count k e h = sym (both_pick (leb count k) (mark_at s k)) ∙ (rw e at h)
 
 -- fewer than 18 bytes are no archive
 pub too_short : (s : List ℕ) → length s < 18 → bad_archive s ≡ true

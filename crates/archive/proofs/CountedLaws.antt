@@ -5,10 +5,7 @@ use mathlib.Core.Bool.{Bool, false}
 use mathlib.Core.List.{List}
 use native.Mathlib.Omega.{arith}
 use Rattle.answer.proofs.RefusalLaws.{accepted}
-use Rattle.answer.specs.declared.Outcome.{Outcome}
-use Rattle.answer.specs.declared.Outcome.TheVariants.{Done, Refused as RefusedOutcome}
-use Rattle.answer.specs.declared.Counted.{Counted}
-use Rattle.answer.specs.declared.Counted.TheVariants.{Count, Refused}
+use Rattle.answer.specs.Answer.{Outcome, Counted, done, Ok, Err}
 use Rattle.answer.specs.Counted.{counted, counted_value}
 use Rattle.sizes.specs.Lengths.{place_count}
 use Rattle.archive.specs.Layout.{sizes_of, mark_at, bad_archive}
@@ -28,13 +25,13 @@ unfolding inventory_answer
 inventory_low s out e = rw e (go (inventory_before (sizes_of s) s out) refl)
   where
     go : (o : Outcome) → inventory_before (sizes_of s) s out ≡ o → counted_value (counted o (how_many (place_count (sizes_of s)) (mark_at s))) 0 < 256
-    go Done e = few s (mark_at s) (accepted _ _ _ e).0
-    go (RefusedOutcome r) e = omega arith
+    go (Ok _) e = few s (mark_at s) (accepted _ _ _ e).0
+    go (Err r) e = omega arith
 
 pub read_low : (s out : List ℕ) (a : Counted) (written : List ℕ) → ReadAllows s out a written → counted_value a 0 < 256
-read_low s out (Count k) written w = omega (arith, w.3.most, few s (mark_at s) (accepted _ _ _ w.0).0)
-read_low s out (Refused r) written w = omega arith
+read_low s out (Ok k) written w = omega (arith, w.3.most, few s (mark_at s) (accepted _ _ _ w.0).0)
+read_low s out (Err r) written w = omega arith
 
 pub losses_low : (s : List ℕ) (k : ℕ) (sets : List ℕ) (a : Counted) (written : List ℕ) → LossesAllows s k sets a written → counted_value a 0 < 256
-losses_low s k sets (Count count) written w = omega (arith, w.1.fits)
-losses_low s k sets (Refused r) written w = omega arith
+losses_low s k sets (Ok count) written w = omega (arith, w.1.fits)
+losses_low s k sets (Err r) written w = omega arith

@@ -9,7 +9,7 @@ use borrow.Author.Tests.{lt-leb}
 use Rattle.lists.specs.Lists.{pick, at}
 use Rattle.lists.proofs.OverLaws.{over_map}
 use Rattle.lists.proofs.AnyLaws.{any_below_lem, any_skip, any_last, any_none}
-use Rattle.answer.specs.declared.Outcome.TheVariants.{Done}
+use Rattle.answer.specs.Answer.{done}
 use Rattle.answer.proofs.RefusalLaws.{passed, after_done, same, differs_same}
 use Rattle.sizes.specs.declared.Sizes.{Sizes}
 use Rattle.sizes.specs.Lengths.{place_number}
@@ -50,12 +50,12 @@ module _ (s : List ℕ) {z : Sizes} (read : z ≡ sizes_of s) (good : bad_archiv
 
   -- the node's places are empty in the archive
   module _ (empty : (place : ℕ) → place < z.places → mark (place_number z node place) ≡ false) where
-    for_read : gather_for z (filled_in z a) node ≡ Done
+    for_read : gather_for z (filled_in z a) node ≡ done
     for_read =
         passed _ _ (lt-leb z.nodes node there)
         ∙ passed _ _ (any_none z.places _ (λ place h. w.marks (place_number z node place) (number_mark z R node place there h) ∙ empty place h))
 
-    pub gather_done : gather_answer a b node ≡ Done
+    pub gather_done : gather_answer a b node ≡ done
     unfolding gather_answer
     gather_done =
         passed _ _

@@ -1,5 +1,4 @@
 pub mod LayoutLaws
-pub mod IdLaws
 pub mod GoodArchiveLaws
 pub mod BadArchiveLaws
 pub mod MarkLaws

@@ -9,7 +9,7 @@ use lib.Dec.{eqb}
 use borrow.Author.Tests.{lt-leb}
 use Rattle.lists.specs.Lists.{pick, over}
 use Rattle.lists.proofs.OverLaws.{over_map, over_row}
-use Rattle.answer.specs.declared.Outcome.TheVariants.{Done}
+use Rattle.answer.specs.Answer.{done}
 use Rattle.answer.proofs.RefusalLaws.{passed, after_done}
 use Rattle.sizes.specs.declared.Sizes.{Sizes}
 use Rattle.sizes.specs.Lengths.{place_number}
@@ -41,7 +41,7 @@ lost_parts {z} {mark = mark} {rec = rec} R w node there =
 
 -- the call's answer, and the archive after it
 module _ (z : Sizes) (s : List ℕ) (good : bad_archive s ≡ false) (read : z ≡ sizes_of s) (node : ℕ) (there : node < z.nodes) where
-  pub lose_done : archive_answer s (lose node) ≡ Done
+  pub lose_done : archive_answer s (lose node) ≡ done
   unfolding archive_answer answer_for
   lose_done = rw (← read) (passed _ _ (good_read s read good) ∙ passed _ _ (lt-leb z.nodes node there))
 

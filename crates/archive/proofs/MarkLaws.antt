@@ -6,9 +6,10 @@ use mathlib.Core.List.{List}
 use native.Mathlib.Omega.{arith}
 use lib.Dec.{eqb}
 use lib.ListN.{length}
-use Rattle.lists.specs.Lists.{at, put, over, bit}
-use Rattle.lists.proofs.PutLaws.{put_above, put_at, put_again, is_put, grid_below}
-use Rattle.lists.proofs.OverLaws.{over_within, over_below, over_above, over_same}
+use lib.Pow.{pow_mono}
+use Rattle.lists.proofs.TabLaws.{tab_at}
+use Rattle.lists.specs.Lists.{at, tab, put, over, bit}
+use Rattle.lists.proofs.PutLaws.{put_at, put_same, put_again, is_put, grid_below}
 use Rattle.bits.specs.Fields.{number, packed, bit_at, field_at}
 use Rattle.bits.proofs.NumberLaws.{bit_back, number_low, number_same}
 use Rattle.bits.proofs.PackLaws.{packed_at, packed_bit, packed_same, byte_bits}
@@ -32,44 +33,18 @@ module _ (s : List ℕ) (k count : ℕ) (v : Bool) where
   abbrev pub new_marks : ℕ → Bool
   new_marks = over k count (λ j. v) (mark_at s)
 
-  -- the mark of a place before them, behind them, among them
-  pub mark_before : (i : ℕ) {x : ℕ} → x ≡ field_at s (96 + i) 1 → i < k → x ≡ bit (new_marks i)
-  mark_before i e h = mark_field s i e ∙ ap bit (sym (over_below k count (λ j. v) (mark_at s) i h))
-
-  pub mark_behind : (i : ℕ) {x : ℕ} → x ≡ field_at s (96 + i) 1 → k + count ≤ i → x ≡ bit (new_marks i)
-  mark_behind i e h = mark_field s i e ∙ ap bit (sym (over_above k count (λ j. v) (mark_at s) i h))
-
-  pub mark_among : (i : ℕ) (b : Bool) → v ≡ b → k ≤ i → i < k + count → bit b ≡ bit (new_marks i)
-  mark_among i b e h l = ap bit (sym (over_within k count (λ j. v) (mark_at s) i h l ∙ e))
-
   -- byte j of them, bit after bit
   abbrev pub mark_bits : ℕ → ℕ → Bool
   mark_bits j i = new_marks (8 * j + i)
 
-  pub mark_byte_made : (j i x : ℕ) → j < 6 → i ≡ 8 → x ≡ number (mark_bits j) i → x % 256 ≡ at (packed 6 new_marks) j
-  mark_byte_made j i x h q e =
-      let low : x < 256 = omega (arith, rw q at e, number_low (mark_bits j) 8) in
-      let same : x % 256 ≡ x = omega arith in
-      same ∙ (rw q at e) ∙ sym (packed_at 6 new_marks j h)
+-- one bit more than fewer than eight still makes a byte
+pub seven_bits : (bits : ℕ → Bool) (i x : ℕ) → i < 8 → x ≡ number bits i → x * 2 + 1 < 256
+seven_bits bits i x l e = omega (arith, number_low bits i, pow_mono {i = i} {j = 7} (omega arith))
 
--- byte j is made of marks that stores before it have kept
-pub marks_kept : (s t : List ℕ) (k count : ℕ) (v : Bool) (f : ℕ → ℕ) (j : ℕ) {x : ℕ} → j < 6 → t ≡ put j 12 f s
-    → x ≡ at (packed 6 (new_marks t k count v)) j → x ≡ at (packed 6 (new_marks s k count v)) j
-unfolding mark_at bit_at
-marks_kept s t k count v f j h e w =
-    w ∙ packed_at 6 (new_marks t k count v) j h
-    ∙ number_same (mark_bits t k count v j) (mark_bits s k count v j) 8 (λ i l.
-    over_same k count (λ j. v) (λ j. v) (mark_at t) (mark_at s) (8 * j + i) (λ j l. refl) (kept i l))
-    ∙ sym (packed_at 6 (new_marks s k count v) j h)
-  where
-    kept : (i : ℕ) → i < 8 → mark_at t (8 * j + i) ≡ mark_at s (8 * j + i)
-    kept i l =
-        let q : (96 + (8 * j + i)) / 8 ≡ 12 + j = omega arith in
-        rw (e, q, put_above j 12 f s (12 + j) (omega arith))
-
-pub marks_written : (mark : ℕ → Bool) (s : List ℕ) {t : List ℕ} {j : ℕ} → j ≡ 6 → t ≡ put j 12 (at (packed 6 mark)) s → t ≡ with_marks mark s
+-- the bytes of the marks, copied to their place
+pub marks_written : (mark : ℕ → Bool) (s : List ℕ) {u t : List ℕ} → u ≡ tab 6 (at (packed 6 mark)) → t ≡ put 6 12 (at u) s → t ≡ with_marks mark s
 unfolding with_marks
-marks_written mark s q e = rw q at e
+marks_written mark s e w = w ∙ put_same 6 12 _ _ s (λ i h. ap (λ (l : List ℕ). at l i) e ∙ tab_at 6 _ i h)
 
 -- ---- marks that are written
 

@@ -1,6 +1,6 @@
 -- What Open's answer tells, and what it writes. Assumes nothing.
 use Prim.Native.Nat.{ℕ, ◌+◌, ◌-◌, ◌<◌, ◌≤◌}
-use mathlib.Core.Path.{◌≡◌, refl, sym, ap, ◌∙◌}
+use mathlib.Core.Path.{◌≡◌, refl, sym, ◌∙◌}
 use mathlib.Core.Bool.{false}
 use mathlib.Core.List.{List, [], ◌∷◌, ◌++◌}
 use mathlib.Core.Logic.{⊎_elim}
@@ -10,8 +10,7 @@ use Rattle.lists.specs.Lists.{at, tab, put}
 use Rattle.lists.proofs.TabLaws.{order}
 use Rattle.lists.proofs.PutLaws.{length_put, put_below, put_above, put_at, skip}
 use Rattle.lists.proofs.AnyLaws.{none_at}
-use Rattle.answer.specs.declared.Outcome.{Outcome}
-use Rattle.answer.specs.declared.Outcome.TheVariants.{Done}
+use Rattle.answer.specs.Answer.{Outcome, done}
 use Rattle.answer.proofs.RefusalLaws.{accepted, same}
 use Rattle.bits.specs.Fields.{◌wide◌, bits_of, widths, packed, pack, with_field}
 use Rattle.bits.proofs.PackLaws.{packed_length, packed_at, packed_same, bits_zero, packed_zero, packed_past}
@@ -27,11 +26,11 @@ use Rattle.archive.proofs.LayoutLaws.{sizes_length, length_archive, archive_fron
 -- ---- the answer
 
 module _ (layout : ℕ) (z : Sizes) (id archive : List ℕ) {o : Outcome} (answer : o ≡ open_answer layout z id archive) where
-  pub open_ranges : o ≡ Done → (layout_outside layout z.tags ≡ false) × (sizes_outside z ≡ false)
+  pub open_ranges : o ≡ done → (layout_outside layout z.tags ≡ false) × (sizes_outside z ≡ false)
   unfolding open_answer
   open_ranges e = let t = (accepted _ _ _ (sym answer ∙ e)).0 in (none_at _ 0 t, none_at _ 1 t)
 
-  pub open_lengths : o ≡ Done → (length id ≡ 8) × (length archive ≡ archive_length z)
+  pub open_lengths : o ≡ done → (length id ≡ 8) × (length archive ≡ archive_length z)
   unfolding open_answer
   open_lengths e = let t = (accepted _ _ _ (accepted _ _ _ (sym answer ∙ e)).1).0 in (same _ _ (none_at _ 0 t), same _ _ (none_at _ 1 t))
 
@@ -43,7 +42,7 @@ module _ (layout : ℕ) (z : Sizes) (id : List ℕ) (e : length id ≡ 8) where
   sized = packed (archive_length z) (bits_of (size_fields layout z))
 
   abbrev made : List ℕ
-  made = put 8 4 (λ i. at id (0 + i)) sized
+  made = put 8 4 (at id) sized
 
   abbrev new : List ℕ
   new = archive_of layout z id (λ k. false) (λ k p. 0)
@@ -57,8 +56,7 @@ module _ (layout : ℕ) (z : Sizes) (id : List ℕ) (e : length id ≡ 8) where
 
   id_byte : (i : ℕ) → i < 8 → at made (4 + i) ≡ at (pack (size_fields layout z) ++ id) (4 + i)
   id_byte i h =
-      let q : 0 + i ≡ i = omega arith in
-      put_at 8 4 (λ i. at id (0 + i)) sized i h (rw packed_length (omega arith)) ∙ ap (at id) q ∙ sym (skip (pack (size_fields layout z)) id 4 i (sizes_length layout z))
+      put_at 8 4 (at id) sized i h (rw packed_length (omega arith)) ∙ sym (skip (pack (size_fields layout z)) id 4 i (sizes_length layout z))
 
   zero_byte : (i : ℕ) → 12 ≤ i → i < archive_length z → at made i ≡ 0
   unfolding widths
@@ -92,5 +90,5 @@ sizes_written layout z len says clear one two three four five six =
     ((4 wide layout) ∷ (11 wide z.n) ∷ (5 wide z.m) ∷ (4 wide z.places) ∷ (3 wide z.nodes) ∷ (4 wide tag_field layout z.tags) ∷ []) 1 k)
 
 pub new_written : (layout : ℕ) (z : Sizes) (id : List ℕ) {n : ℕ} {s r : List ℕ} → length id ≡ 8 → n ≡ archive_length z
-    → s ≡ packed n (bits_of (size_fields layout z)) → r ≡ put 8 4 (λ i. at id (0 + i)) s → r ≡ opened layout z id
+    → s ≡ packed n (bits_of (size_fields layout z)) → r ≡ put 8 4 (at id) s → r ≡ opened layout z id
 new_written layout z id l e sizes made = made ∙ rw (sizes, e) (made_is layout z id l)

@@ -7,7 +7,7 @@ use native.Mathlib.Omega.{arith}
 use lib.ListN.{length}
 use Rattle.lists.specs.Lists.{at}
 use Rattle.lists.proofs.AnyLaws.{none_at}
-use Rattle.answer.specs.declared.Outcome.TheVariants.{Done}
+use Rattle.answer.specs.Answer.{done}
 use Rattle.answer.proofs.RefusalLaws.{accepted, same}
 use Rattle.sizes.specs.declared.Sizes.{Sizes}
 use Rattle.sizes.specs.Lengths.{response_length, block_length, record_length, auxiliary_length}
@@ -27,7 +27,7 @@ module _ (s mask_key elements seed message out : List ℕ) where
     pub seed_length_lem : length seed ≡ 11
     pub response_length_lem : length out ≡ response_length (sizes_of s).n (sizes_of s).tags
 
-  pub provable : prove_answer s mask_key elements seed message out ≡ Done → Provable
+  pub provable : prove_answer s mask_key elements seed message out ≡ done → Provable
   unfolding prove_answer prove_for
   provable e =
       let one = accepted _ _ _ e in

@@ -1,7 +1,6 @@
 -- A call of Encode, Lose or Repair: its answer, the archive after it, and lists of calls (SCHEME, Operations, Row table).
 use Rattle.std.specs.Prelude.{ℕ, Bool, List, [], ◌∷◌, length}
-use Rattle.answer.specs.declared.Outcome.{Outcome}
-use Rattle.answer.specs.declared.Outcome.TheVariants.{Done}
+use Rattle.answer.specs.Answer.{Outcome, done}
 use Rattle.answer.specs.declared.Refusal.TheVariants.{BadArchive}
 use Rattle.answer.specs.Refusals.{refuse, afterwards}
 use Rattle.sizes.specs.declared.Sizes.{Sizes}
@@ -56,4 +55,4 @@ archive_run s (c ∷ cs) = archive_run (archive_after s c) cs
 -- an answer for each call: that it is done
 abbrev pub all_done : List Call → List Outcome
 all_done [] = []
-all_done (c ∷ cs) = Done ∷ all_done cs
+all_done (c ∷ cs) = done ∷ all_done cs

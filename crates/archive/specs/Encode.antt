@@ -1,8 +1,7 @@
 -- The operation Encode (SCHEME, Operations), on an archive that is not bad: `filled` tells which places are.
 use Rattle.std.specs.Prelude.{ℕ, Bool, true, List, [], ◌∷◌, length, leb}
 use Rattle.lists.specs.Lists.{at, any_of}
-use Rattle.answer.specs.declared.Outcome.{Outcome}
-use Rattle.answer.specs.declared.Outcome.TheVariants.{Done}
+use Rattle.answer.specs.Answer.{Outcome, done}
 use Rattle.answer.specs.declared.Refusal.TheVariants.{Length, NoSuchPlace, PlaceFilled}
 use Rattle.answer.specs.Refusals.{refuse, differs}
 use Rattle.sizes.specs.declared.Sizes.{Sizes}
@@ -23,7 +22,7 @@ encode_for z filled node place file padding tag_key row =
     ∷ [])) Length
     (refuse (any_of (leb z.nodes node ∷ leb z.places place ∷ [])) NoSuchPlace
     (refuse (filled node place) PlaceFilled
-    Done))
+    done))
 
 -- the place is marked, and its record is the source blocks combined by the row, with their tags under the archive's id
 abbrev pub encoded : (z : Sizes) (id archive : List ℕ) (node place : ℕ) (file padding tag_key row : List ℕ) → List ℕ

@@ -2,8 +2,7 @@
 -- archive that begins as this one does. Refuses 3, 4, 6.
 use Rattle.std.specs.Prelude.{ℕ, Bool, List, [], ◌∷◌, leb}
 use Rattle.lists.specs.Lists.{at, any_of, any_below}
-use Rattle.answer.specs.declared.Outcome.{Outcome}
-use Rattle.answer.specs.declared.Outcome.TheVariants.{Done}
+use Rattle.answer.specs.Answer.{Outcome, done}
 use Rattle.answer.specs.declared.Refusal.TheVariants.{BadArchive, NoSuchPlace, PlaceFilled}
 use Rattle.answer.specs.Refusals.{refuse, afterwards, differs}
 use Rattle.sizes.specs.declared.Sizes.{Sizes}
@@ -19,7 +18,7 @@ abbrev pub gather_for : (z : Sizes) (filled : ℕ → ℕ → Bool) (node : ℕ)
 gather_for z filled node =
     refuse (leb z.nodes node) NoSuchPlace
     (refuse (any_below z.places (λ place. filled node place)) PlaceFilled
-    Done)
+    done)
 
 unfoldable pub gather_answer : (archive share : List ℕ) (node : ℕ) → Outcome
 gather_answer archive share node =

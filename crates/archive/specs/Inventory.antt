@@ -1,14 +1,12 @@
 -- The operation Inventory (SCHEME, Operations): the filled places in shelf order. Refuses 3, 2.
 use Rattle.std.specs.Prelude.{ℕ, ◌+◌, ◌*◌, ◌/◌, ◌%◌, ◌<◌, ◌≤◌, ◌≡◌, Bool, List, length, eqb}
 use Rattle.lists.specs.Lists.{at, bit, how_many, filtered, zero_padded}
-use Rattle.answer.specs.declared.Outcome.{Outcome}
-use Rattle.answer.specs.declared.Outcome.TheVariants.{Done}
+use Rattle.answer.specs.Answer.{Outcome, Counted, done}
 use Rattle.answer.specs.declared.Refusal.TheVariants.{Length, BadArchive}
 use Rattle.answer.specs.Refusals.{refuse, afterwards, differs}
 use Rattle.sizes.specs.declared.Sizes.{Sizes}
 use Rattle.sizes.specs.Lengths.{place_count}
 use Rattle.archive.specs.Layout.{sizes_of, mark_at, bad_archive}
-use Rattle.answer.specs.declared.Counted.{Counted}
 use Rattle.answer.specs.Counted.{counted}
 
 -- ---- the list
@@ -24,7 +22,7 @@ shelf z filled = zero_padded (place_count z) (filtered (place_count z) filled (p
 -- ---- the operation
 
 abbrev pub inventory_before : (z : Sizes) (s out : List ℕ) → Outcome
-inventory_before z s out = refuse (bad_archive s) BadArchive (refuse (differs (length out) (place_count z)) Length Done)
+inventory_before z s out = refuse (bad_archive s) BadArchive (refuse (differs (length out) (place_count z)) Length done)
 
 -- the number of filled places
 unfoldable pub inventory_answer : (s out : List ℕ) → Counted

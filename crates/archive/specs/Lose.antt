@@ -1,7 +1,6 @@
 -- The operation Lose (SCHEME, Operations), on an archive that is not bad.
 use Rattle.std.specs.Prelude.{ℕ, false, List, leb}
-use Rattle.answer.specs.declared.Outcome.{Outcome}
-use Rattle.answer.specs.declared.Outcome.TheVariants.{Done}
+use Rattle.answer.specs.Answer.{Outcome, done}
 use Rattle.answer.specs.declared.Refusal.TheVariants.{NoSuchPlace}
 use Rattle.answer.specs.Refusals.{refuse}
 use Rattle.sizes.specs.declared.Sizes.{Sizes}
@@ -10,7 +9,7 @@ use Rattle.archive.specs.Layout.{stored}
 
 -- refuses, after 3: 4
 abbrev pub lose_for : (z : Sizes) (node : ℕ) → Outcome
-lose_for z node = refuse (leb z.nodes node) NoSuchPlace Done
+lose_for z node = refuse (leb z.nodes node) NoSuchPlace done
 
 -- the node's marks and records become zero
 abbrev pub lost : (z : Sizes) (archive : List ℕ) (node : ℕ) → List ℕ

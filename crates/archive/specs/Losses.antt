@@ -2,15 +2,12 @@
 -- the answer and the list afterwards; nothing is free. Refuses 3, 1, 2.
 use Rattle.std.specs.Prelude.{ℕ, ◌/◌, ◌%◌, ◌^◌, ◌<◌, ◌≤◌, ◌≡◌, Bool, true, false, List, [], ◌∷◌, length, eqb, ltb}
 use Rattle.lists.specs.Lists.{pick, at, filtered}
-use Rattle.answer.specs.declared.Outcome.{Outcome}
-use Rattle.answer.specs.declared.Outcome.TheVariants.{Done, Refused as RefusedOutcome}
+use Rattle.answer.specs.Answer.{Outcome, Counted, done, Ok, Err}
 use Rattle.answer.specs.declared.Refusal.TheVariants.{Size, Length, BadArchive}
 use Rattle.answer.specs.Refusals.{refuse, differs}
 use Rattle.sizes.specs.declared.Sizes.{Sizes}
 use Rattle.archive.specs.Layout.{sizes_of, mark_at, bad_archive}
 use Rattle.archive.specs.Read.{row_in, Blind}
-use Rattle.answer.specs.declared.Counted.{Counted}
-use Rattle.answer.specs.declared.Counted.TheVariants.{Count, Refused}
 
 -- ---- sets of nodes
 
@@ -65,12 +62,12 @@ pub record Losses (z : Sizes) (s : List ℕ) (k count : ℕ) (sets : List ℕ) :
 
 abbrev pub losses_before : (z : Sizes) (s : List ℕ) (k : ℕ) (sets : List ℕ) → Outcome
 losses_before z s k sets =
-    refuse (bad_archive s) BadArchive (refuse (ltb z.nodes k) Size (refuse (differs (length sets) list_length) Length Done))
+    refuse (bad_archive s) BadArchive (refuse (ltb z.nodes k) Size (refuse (differs (length sets) list_length) Length done))
 
 -- refused: nothing is written; otherwise the number of sets, and the list
 abbrev pub LossesFor : (z : Sizes) (s : List ℕ) (k : ℕ) (sets : List ℕ) → Counted → List ℕ → Type 0
-LossesFor z s k sets (Refused r) written = (written ≡ sets) × (losses_before z s k sets ≡ RefusedOutcome r)
-LossesFor z s k sets (Count count) written = (losses_before z s k sets ≡ Done) × Losses z s k count written
+LossesFor z s k sets (Err r) written = (written ≡ sets) × (losses_before z s k sets ≡ Err r)
+LossesFor z s k sets (Ok count) written = (losses_before z s k sets ≡ done) × Losses z s k count written
 
 abbrev pub LossesAllows : (s : List ℕ) (k : ℕ) (sets : List ℕ) (answer : Counted) (written : List ℕ) → Type 0
 LossesAllows s k sets answer written = LossesFor (sizes_of s) s k sets answer written

@@ -1,8 +1,7 @@
 -- The operation Open (SCHEME, Operations).
 use Rattle.std.specs.Prelude.{ℕ, false, List, [], ◌∷◌, length}
 use Rattle.lists.specs.Lists.{any_of}
-use Rattle.answer.specs.declared.Outcome.{Outcome}
-use Rattle.answer.specs.declared.Outcome.TheVariants.{Done}
+use Rattle.answer.specs.Answer.{Outcome, done}
 use Rattle.answer.specs.declared.Refusal.TheVariants.{Size, Length}
 use Rattle.answer.specs.Refusals.{refuse, afterwards, differs}
 use Rattle.sizes.specs.declared.Sizes.{Sizes}
@@ -19,7 +18,7 @@ unfoldable pub open_answer : (layout : ℕ) (z : Sizes) (id archive : List ℕ) 
 open_answer layout z id archive =
     refuse (any_of (layout_outside layout z.tags ∷ sizes_outside z ∷ [])) Size
     (refuse (any_of (differs (length id) id_length ∷ differs (length archive) (archive_length z) ∷ [])) Length
-    Done)
+    done)
 
 unfoldable pub open_out : (layout : ℕ) (z : Sizes) (id archive : List ℕ) → List ℕ
 open_out layout z id archive = afterwards (open_answer layout z id archive) archive (opened layout z id)

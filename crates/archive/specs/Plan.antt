@@ -2,8 +2,7 @@
 -- Refuses 3, 1, 2, 4, 5, 12.
 use Rattle.std.specs.Prelude.{ℕ, ◌+◌, ◌*◌, ◌/◌, ◌%◌, ◌<◌, ◌≡◌, ◌⊎◌, ◌≢◌, Bool, List, [], ◌∷◌, length}
 use Rattle.lists.specs.Lists.{at, any_of, Bytes}
-use Rattle.answer.specs.declared.Outcome.{Outcome}
-use Rattle.answer.specs.declared.Outcome.TheVariants.{Done, Refused}
+use Rattle.answer.specs.Answer.{Outcome, done, Ok, Err}
 use Rattle.answer.specs.declared.Refusal.TheVariants.{Size, Length, BadArchive, NoSuchPlace, PlaceEmpty, NoPlan}
 use Rattle.answer.specs.Refusals.{refuse, differs}
 use Rattle.sizes.specs.declared.Sizes.{Sizes}
@@ -59,7 +58,7 @@ plan_for z filled helpers q gammas rows thetas =
     ∷ [])) Length
     (refuse (helper_missing z helpers) NoSuchPlace
     (refuse (helper_empty z filled helpers) PlaceEmpty
-    Done)))
+    done)))
 
 abbrev pub plan_before : (s helpers : List ℕ) (q : ℕ) (gammas rows thetas : List ℕ) → Outcome
 plan_before s helpers q gammas rows thetas =
@@ -67,10 +66,10 @@ plan_before s helpers q gammas rows thetas =
 
 -- refused: nothing is written, and 12 comes last, with its vector; done: there is no such vector, and the thetas are a plan
 abbrev pub PlanAnswer : (before : Outcome) (z : Sizes) (count : ℕ) (row wanted : ℕ → ℕ → ℕ) (thetas : List ℕ) → Outcome → List ℕ → Type 0
-PlanAnswer before z count row wanted thetas (Refused r) written =
-    (written ≡ thetas) × ((before ≡ Refused r) ⊎ ((before ≡ Done) × (r ≡ NoPlan) × Unreachable z count row wanted))
-PlanAnswer before z count row wanted thetas Done written =
-    (before ≡ Done) × (¬ Unreachable z count row wanted) × Planned z count row wanted written
+PlanAnswer before z count row wanted thetas (Err r) written =
+    (written ≡ thetas) × ((before ≡ Err r) ⊎ ((before ≡ done) × (r ≡ NoPlan) × Unreachable z count row wanted))
+PlanAnswer before z count row wanted thetas (Ok _) written =
+    (before ≡ done) × (¬ Unreachable z count row wanted) × Planned z count row wanted written
 
 abbrev pub PlanAllows : (s helpers : List ℕ) (q : ℕ) (gammas rows thetas : List ℕ) (answer : Outcome) (written : List ℕ) → Type 0
 PlanAllows s helpers q gammas rows thetas answer written =

@@ -1,8 +1,7 @@
 -- The operation Prove (SCHEME, Operations). Refuses 3, 9, 2, 4, 5.
 use Rattle.std.specs.Prelude.{ℕ, ◌+◌, Bool, not, List, [], ◌∷◌, length}
 use Rattle.lists.specs.Lists.{at, any_of, any_below}
-use Rattle.answer.specs.declared.Outcome.{Outcome}
-use Rattle.answer.specs.declared.Outcome.TheVariants.{Done}
+use Rattle.answer.specs.Answer.{Outcome, done}
 use Rattle.answer.specs.declared.Refusal.TheVariants.{Length, BadArchive, NoSuchPlace, PlaceEmpty, Malformed}
 use Rattle.answer.specs.Refusals.{refuse, afterwards, differs}
 use Rattle.sizes.specs.declared.Sizes.{Sizes}
@@ -25,7 +24,7 @@ prove_for z filled mask_key auxiliary seed c out =
     ∷ [])) Length
     (refuse (not_there z c) NoSuchPlace
     (refuse (any_below (length c.places) (λ j. not (filled c.node (at c.places j)))) PlaceEmpty
-    Done))
+    done))
 
 unfoldable pub prove_answer : (s mask_key auxiliary seed message out : List ℕ) → Outcome
 prove_answer s mask_key auxiliary seed message out =

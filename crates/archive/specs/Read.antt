@@ -2,8 +2,7 @@
 -- places consulted is free. Refuses 3, 2, 8.
 use Rattle.std.specs.Prelude.{ℕ, ◌+◌, ◌-◌, ◌*◌, ◌<◌, ◌≤◌, ◌≡◌, ◌⊎◌, ◌≢◌, Bool, true, false, List, length, ltb}
 use Rattle.lists.specs.Lists.{pick, at, how_many, Bytes}
-use Rattle.answer.specs.declared.Outcome.{Outcome}
-use Rattle.answer.specs.declared.Outcome.TheVariants.{Done, Refused as RefusedOutcome}
+use Rattle.answer.specs.Answer.{Outcome, Counted, done, Ok, Err}
 use Rattle.answer.specs.declared.Refusal.TheVariants.{Length, BadArchive, Unreadable}
 use Rattle.answer.specs.Refusals.{refuse, differs}
 use Rattle.sizes.specs.declared.Sizes.{Sizes}
@@ -11,8 +10,6 @@ use Rattle.vector.specs.Vectors.{product}
 use Rattle.vector.specs.Taken.{Takes}
 use Rattle.sizes.specs.Lengths.{place_count, file_length}
 use Rattle.archive.specs.Layout.{sizes_of, mark_at, byte_in, bad_archive}
-use Rattle.answer.specs.declared.Counted.{Counted}
-use Rattle.answer.specs.declared.Counted.TheVariants.{Count, Refused}
 
 -- element i of the row of place number k, which stands at the end of its stored block
 abbrev pub row_in : (z : Sizes) (s : List ℕ) (k i : ℕ) → ℕ
@@ -52,15 +49,15 @@ pub record Enough (z : Sizes) (filled : ℕ → Bool) (row : ℕ → ℕ → ℕ
 -- ---- refusals and the answer
 
 abbrev pub read_before : (z : Sizes) (s out : List ℕ) → Outcome
-read_before z s out = refuse (bad_archive s) BadArchive (refuse (differs (length out) (file_length z)) Length Done)
+read_before z s out = refuse (bad_archive s) BadArchive (refuse (differs (length out) (file_length z)) Length done)
 
 -- refused: nothing is written; otherwise the number and the file
 abbrev pub ReadFor : Sizes → List ℕ → List ℕ → Counted → List ℕ → Type 0
-ReadFor z s out (Refused r) written =
+ReadFor z s out (Err r) written =
     (written ≡ out)
-    × ((read_before z s out ≡ RefusedOutcome r) ⊎ ((read_before z s out ≡ Done) × (r ≡ Unreadable) × Blind z (mark_at s) (row_in z s)))
-ReadFor z s out (Count count) written =
-    (read_before z s out ≡ Done) × (¬ Blind z (mark_at s) (row_in z s)) × Solved z s written × Enough z (mark_at s) (row_in z s) count
+    × ((read_before z s out ≡ Err r) ⊎ ((read_before z s out ≡ done) × (r ≡ Unreadable) × Blind z (mark_at s) (row_in z s)))
+ReadFor z s out (Ok count) written =
+    (read_before z s out ≡ done) × (¬ Blind z (mark_at s) (row_in z s)) × Solved z s written × Enough z (mark_at s) (row_in z s) count
 
 abbrev pub ReadAllows : (s out : List ℕ) (answer : Counted) (written : List ℕ) → Type 0
 ReadAllows s out answer written = ReadFor (sizes_of s) s out answer written

@@ -1,8 +1,7 @@
 -- The operation Repair (SCHEME, Operations), on an archive that is not bad: `filled` tells which places are.
 use Rattle.std.specs.Prelude.{ℕ, ◌+◌, ◌*◌, ◌/◌, ◌%◌, Bool, true, not, List, [], ◌∷◌, length, leb}
 use Rattle.lists.specs.Lists.{at, flat, any_of, any_below}
-use Rattle.answer.specs.declared.Outcome.{Outcome}
-use Rattle.answer.specs.declared.Outcome.TheVariants.{Done}
+use Rattle.answer.specs.Answer.{Outcome, done}
 use Rattle.answer.specs.declared.Refusal.TheVariants.{Size, Length, NoSuchPlace, PlaceEmpty, PlaceFilled}
 use Rattle.answer.specs.Refusals.{refuse, differs, outside}
 use Rattle.field.specs.Field.{sum, times}
@@ -45,7 +44,7 @@ repair_for z filled target helpers q gammas thetas scratch =
     (refuse (any_of (leb z.nodes target ∷ helper_missing z helpers ∷ [])) NoSuchPlace
     (refuse (any_below z.places (λ k. filled target k)) PlaceFilled
     (refuse (helper_empty z filled helpers) PlaceEmpty
-    Done))))
+    done))))
 
 -- coefficient l of repair block (i,j), of the gammas or of the thetas, all counted from 0
 abbrev pub coefficient : (z : Sizes) (q : ℕ) (cs : List ℕ) (i j l : ℕ) → ℕ

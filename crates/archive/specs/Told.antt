@@ -2,8 +2,7 @@
 -- (the scheme: box).
 use Rattle.std.specs.Prelude.{ℕ, ◌*◌, List, length, leb}
 use Rattle.lists.specs.Lists.{pick, flat}
-use Rattle.answer.specs.declared.Outcome.{Outcome}
-use Rattle.answer.specs.declared.Outcome.TheVariants.{Done}
+use Rattle.answer.specs.Answer.{Outcome, done}
 use Rattle.answer.specs.declared.Refusal.TheVariants.{Length, BadArchive, NoSuchPlace}
 use Rattle.answer.specs.Refusals.{refuse, afterwards, differs}
 use Rattle.sizes.specs.declared.Sizes.{Sizes}
@@ -15,7 +14,7 @@ use Rattle.archive.specs.Read.{row_in}
 
 -- refuses 3; else the numbers are `layout_of` and `sizes_of`, by which every operation goes
 unfoldable pub sizes_answer : (s : List ℕ) → Outcome
-sizes_answer s = refuse (bad_archive s) BadArchive Done
+sizes_answer s = refuse (bad_archive s) BadArchive done
 
 -- a number that was lent, and was `old`: the archive's `value`, or as it was
 unfoldable pub size_after : (s : List ℕ) (value old : ℕ) → ℕ
@@ -33,7 +32,7 @@ rows_answer s node rows =
     refuse (bad_archive s) BadArchive
     (refuse (differs (length rows) ((sizes_of s).places * (sizes_of s).m)) Length
     (refuse (leb (sizes_of s).nodes node) NoSuchPlace
-    Done))
+    done))
 
 -- place by place, as Verdict takes them
 unfoldable pub rows_out : (s : List ℕ) (node : ℕ) (rows : List ℕ) → List ℕ

@@ -39,7 +39,7 @@ pub fn id_in(s: &[u8]) -> [u8; 8]
     ensures { result ≡ id_of s.now }
 {
     let mut id = [0u8; 8];
-    lists::store(s, sizes::ID_START, &mut id, 0, sizes::ID_LENGTH);
+    id.copy_from_slice(&s[sizes::ID_START..sizes::MARKS_START]);
     id
 }
 
@@ -57,13 +57,7 @@ pub fn any_place(archive: &[u8], z: Sizes, node: usize, filled: bool) -> bool
     ensures { let archive = archive.entry.now in
         result ≡ any_below z.places (λ k. pick filled (filled_in z archive node k) (not (filled_in z archive node k))) }
 {
-    let places = z.places;
-    for k in 0..places {
-        if marked(archive, node * places + k) == filled {
-            return true;
-        }
-    }
-    false
+    (0..z.places).any(|k| marked(archive, node * z.places + k) == filled)
 }
 
 // Whether a mark is set that belongs to none of the first `count` places.
@@ -71,12 +65,7 @@ fn any_spare_mark(s: &[u8], count: usize) -> bool
     requires { 18 ≤ length s.now }
     ensures { result ≡ any_below mark_count (λ k. pick (leb count k) (mark_at s.now k) false) }
 {
-    for k in 0..sizes::MARK_COUNT {
-        if (count <= k) & marked(s, k) {
-            return true;
-        }
-    }
-    false
+    (count..sizes::MARK_COUNT).any(|k| marked(s, k))
 }
 
 // Whether there is no such layout, or none with so many tags.

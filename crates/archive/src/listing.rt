@@ -6,7 +6,7 @@ ghost use Rattle.archive.specs.Layout.{sizes_of, mark_at, bad_archive};
 ghost use Rattle.archive.specs.Inventory.{shelf, inventory_answer, inventory_out};
 
 use crate::layout::{bad_archive, marked, sizes_in};
-use answer::{Counted, Refusal};
+use answer::Refusal;
 
 // 8 times the node (the scheme: box) plus the place for each filled place, node by node and place by place, then zeros; their number.
 fn list_filled(archive: &[u8], list: &mut [u8]) -> usize
@@ -16,7 +16,8 @@ fn list_filled(archive: &[u8], list: &mut [u8]) -> usize
 {
     let z = sizes_in(archive);
     let places = z.places;
-    lists::clear(list);
+    list.fill(0);
+    // By index: the list moves on only at a filled place, and the count is asked for too.
     let mut count = 0;
     for k in 0..z.nodes * places {
         if marked(archive, k) {
@@ -28,16 +29,16 @@ fn list_filled(archive: &[u8], list: &mut [u8]) -> usize
 }
 
 // The filled places of an archive in shelf order, and their number.
-pub fn inventory(archive: &[u8], list: &mut [u8]) -> Counted
+pub fn inventory(archive: &[u8], list: &mut [u8]) -> Result<usize, Refusal>
     ensures answer { result ≡ inventory_answer archive.now list.old }
     ensures output { list.new ≡ inventory_out archive.now list.old }
 {
     if bad_archive(archive) {
-        return Counted::Refused(Refusal::BadArchive);
+        return Err(Refusal::BadArchive);
     }
     let z = sizes_in(archive);
     if list.len() != z.nodes * z.places {
-        return Counted::Refused(Refusal::Length);
+        return Err(Refusal::Length);
     }
-    Counted::Count(list_filled(archive, list))
+    Ok(list_filled(archive, list))
 }

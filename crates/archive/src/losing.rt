@@ -7,21 +7,21 @@ ghost use Rattle.archive.specs.Calls.{archive_answer, effect_for, archive_after}
 
 use crate::layout::{bad_archive, sizes_in};
 use crate::marks::set_marks;
-use answer::{Outcome, Refusal};
+use answer::Refusal;
 use sizes::{record_length, record_start};
 
 // The first refusal of Lose.
-fn lose_check(archive: &[u8], node: usize) -> Outcome
+fn lose_check(archive: &[u8], node: usize) -> Result<(), Refusal>
     ensures { result ≡ archive_answer archive.now (Calls.lose node) }
 {
     if bad_archive(archive) {
-        return Outcome::Refused(Refusal::BadArchive);
+        return Err(Refusal::BadArchive);
     }
     let z = sizes_in(archive);
     if z.nodes <= node {
-        return Outcome::Refused(Refusal::NoSuchPlace);
+        return Err(Refusal::NoSuchPlace);
     }
-    Outcome::Done
+    Ok(())
 }
 
 // No marks and zero records for the node's places.
@@ -33,17 +33,16 @@ fn empty_node(archive: &mut [u8], node: usize)
     let z = sizes_in(archive);
     let k = node * z.places;
     set_marks(archive, k, z.places, false);
-    lists::zero(archive, record_start(z, k), z.places * record_length(z));
+    let start = record_start(z, k);
+    archive[start..start + z.places * record_length(z)].fill(0);
 }
 
 // Empties a node (the scheme: box).
-pub fn lose(archive: &mut [u8], node: usize) -> Outcome
+pub fn lose(archive: &mut [u8], node: usize) -> Result<(), Refusal>
     ensures answer { result ≡ archive_answer archive.old (Calls.lose node) }
     ensures output { archive.new ≡ archive_after archive.old (Calls.lose node) }
 {
-    let answer = lose_check(archive, node);
-    if let Outcome::Done = answer {
-        empty_node(archive, node);
-    }
-    answer
+    lose_check(archive, node)?;
+    empty_node(archive, node);
+    Ok(())
 }

@@ -7,20 +7,20 @@ ghost use Rattle.archive.specs.Open.{opened, open_answer, open_out};
 ghost use Rattle.sizes.specs.declared.Sizes.{Sizes};
 
 use crate::layout::{layout_outside, tag_field};
-use answer::{Outcome, Refusal};
+use answer::Refusal;
 use sizes::{Sizes, archive_length};
 
 // The first refusal of Open.
-fn open_check(layout: usize, z: Sizes, id: &[u8], archive: &[u8]) -> Outcome
+fn open_check(layout: usize, z: Sizes, id: &[u8], archive: &[u8]) -> Result<(), Refusal>
     ensures { result ≡ open_answer layout z id.now archive.now }
 {
     if layout_outside(layout, z.tags) | sizes::sizes_outside(z) {
-        return Outcome::Refused(Refusal::Size);
+        return Err(Refusal::Size);
     }
     if (id.len() != sizes::ID_LENGTH) | (archive.len() != archive_length(z)) {
-        return Outcome::Refused(Refusal::Length);
+        return Err(Refusal::Length);
     }
-    Outcome::Done
+    Ok(())
 }
 
 // The packed sizes, and zeros behind them.
@@ -28,7 +28,7 @@ fn write_sizes(layout: usize, z: Sizes, archive: &mut [u8])
     requires { header_length ≤ length archive.old }
     ensures { archive.new ≡ packed (length archive.old) (bits_of (size_fields layout z)) }
 {
-    lists::clear(archive);
+    archive.fill(0);
     bits::write_field(archive, 0, 4, layout);
     bits::write_field(archive, 4, 11, z.n);
     bits::write_field(archive, 15, 5, z.m);
@@ -43,7 +43,7 @@ fn write_new(layout: usize, z: Sizes, id: &[u8], archive: &mut [u8])
     ensures { archive.new ≡ opened layout z id.now }
 {
     write_sizes(layout, z, archive);
-    lists::store(id, 0, archive, sizes::ID_START, sizes::ID_LENGTH);
+    archive[sizes::ID_START..sizes::MARKS_START].copy_from_slice(id);
 }
 
 // A new archive of a layout, n, m, places a node, nodes and tags (the scheme: M places a box, N boxes, L).
@@ -56,7 +56,7 @@ pub fn open(
     tags: usize,
     id: &[u8],
     archive: &mut [u8],
-) -> Outcome
+) -> Result<(), Refusal>
     ensures answer { let z : Sizes = record { n = n; m = m; places = places; nodes = nodes; tags = tags } in
         let id = id.entry.now in
         let archive = archive.entry.now in
@@ -72,9 +72,7 @@ pub fn open(
         nodes,
         tags,
     };
-    let answer = open_check(layout, z, id, archive);
-    if let Outcome::Done = answer {
-        write_new(layout, z, id, archive);
-    }
-    answer
+    open_check(layout, z, id, archive)?;
+    write_new(layout, z, id, archive);
+    Ok(())
 }

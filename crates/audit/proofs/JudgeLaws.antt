@@ -5,7 +5,8 @@ use mathlib.Core.Bool.{Bool, true, false, not}
 use mathlib.Core.List.{List}
 use mathlib.Core.Logic.{⊎_elim}
 use native.Mathlib.Omega.{arith}
-use lib.ListN.{length, replicate}
+use lib.ListN.{length, take, replicate}
+use lib.Seq.{get_or-take}
 use borrow.Author.Tests.{lt-ltb, le-ltb}
 use Rattle.lists.specs.Lists.{pick, at, put, any_below}
 use Rattle.lists.proofs.TabLaws.{order}
@@ -14,26 +15,25 @@ use Rattle.lists.proofs.PartLaws.{part, part_at}
 use Rattle.lists.proofs.AnyLaws.{none_at, any_same}
 use Rattle.answer.specs.declared.Refusal.{Refusal}
 use Rattle.answer.specs.declared.Refusal.TheVariants.{ProvesNothing}
-use Rattle.answer.specs.declared.Outcome.{Outcome}
-use Rattle.answer.specs.declared.Outcome.TheVariants.{Done, Refused as RefusedOutcome}
+use Rattle.answer.specs.Answer.{Outcome, done, Ok, Err}
 use Rattle.answer.specs.Refusals.{differs}
 use Rattle.answer.proofs.RefusalLaws.{accepted, same}
 use Rattle.field.specs.Field.{plus}
 use Rattle.sizes.specs.declared.Sizes.{Sizes}
 use Rattle.sizes.specs.Sizes.{sizes_outside}
 use Rattle.tag.specs.KeyVector.{key_vector}
-use Rattle.vector.specs.Vectors.{product, added, all_zero}
+use Rattle.vector.specs.Vectors.{product, all_zero}
 use Rattle.sizes.proofs.SizeLaws.{ranged}
-use Rattle.vector.proofs.VectorLaws.{mixed_vectors, product_same, product_keys, product_split, zero_same}
-use Rattle.vector.proofs.AddedLaws.{added_zeros}
+use Rattle.vector.proofs.SliceLaws.{product_in_part, product_keys_in_part}
+use Rattle.vector.proofs.VectorLaws.{product_same, product_keys, product_split, zero_same}
 use Rattle.linear.specs.declared.rows.Row.{Row}
 use Rattle.linear.specs.PrivateRows.{kept}
-use Rattle.linear.proofs.KeptLaws.{row_stored, kept_same, kept_at}
+use Rattle.linear.proofs.KeptLaws.{row_stored, kept_at}
 use Rattle.sizes.specs.Lengths.{response_length, sum_at}
 use Rattle.message.specs.Response.{data_in, sum_in, tag_in}
 use Rattle.message.specs.Challenge.{Challenge, challenge_of, malformed_challenge, not_there}
 use Rattle.audit.specs.Verdict.{verdict_for, named_row, appended, fails, accepts, judgement, verdict_of}
-use Rattle.audit.specs.declared.Judgement.TheVariants.{Accepted, Rejected, Refused}
+use Rattle.audit.specs.declared.Judgement.TheVariants.{Accepted, Rejected}
 use Rattle.message.proofs.NamedLaws.{first_named}
 
 -- ---- the product with the elements of a vector
@@ -67,24 +67,26 @@ module _ (z : Sizes) (low : 3 ≤ z.n) (row response vector : List ℕ) (s : ℕ
       rw (le-ltb (n - 2 + 2 + e) n (omega arith), q)
 
   -- the products of the three parts add up to the product that Verdict compares
-  pub parts : {a b d : ℕ} → a ≡ product (n - 2) (at (part 1 (n - 1) response)) (at vector)
-      → b ≡ product 2 (at (part (sums_end + 10) (sums_end + 12) response)) (at (part (n - 2) n vector))
-      → d ≡ product z.m (at row) (at (part n (n + z.m) vector))
+  pub parts : {a b d : ℕ} → length response ≡ response_length n z.tags → n + z.m ≤ length vector
+      → a ≡ product (length (part 1 (n - 1) response)) (at (part 1 (n - 1) response)) (at (take (n - 2) vector))
+      → b ≡ product (length (part (sums_end + 10) (sums_end + 12) response)) (at (part (sums_end + 10) (sums_end + 12) response)) (at (part (n - 2) n vector))
+      → d ≡ product (length (part n (n + z.m) vector)) (at row) (at (part n (n + z.m) vector))
       → differs (plus (plus a b) d) (plus (at response (sums_end + 12 + s)) (at response (sum_at n s)))
       ≡ fails z (λ s. at vector) (at row) response s
   unfolding fails
-  parts {a} {b} {d} p q r =
+  parts {a} {b} {d} long fits p q r =
       let whole : z.n + z.m ≡ n - 2 + 2 + z.m = omega arith in
       let first : a ≡ product (n - 2) all (at vector) =
-      p ∙ product_same (n - 2) _ all _ (λ e h. part_at 1 (n - 1) response e (omega arith) ∙ sym (masked_part e h)) in
+      product_in_part 1 (n - 1) (n - 2) response _ (omega arith) (omega arith) p
+      ∙ product_same (n - 2) _ all _ (λ e h. sym (masked_part e h)) ∙ product_keys (n - 2) all _ _ (λ e h. get_or-take (n - 2) vector e 0 h) in
       let second : b ≡ product 2 (λ e. all (n - 2 + e)) (λ e. at vector (n - 2 + e)) =
-      q ∙ product_same 2 _ _ _ (λ e h. part_at (sums_end + 10) (sums_end + 12) response e (omega arith) ∙ sym (clear_part e h))
-      ∙ product_keys 2 _ _ _ (λ e h. part_at (n - 2) n vector e (omega arith)) in
+      product_in_part (sums_end + 10) (sums_end + 12) 2 response _ (omega arith) (omega arith) q
+      ∙ product_same 2 _ _ _ (λ e h. sym (clear_part e h)) ∙ product_keys 2 _ _ _ (λ e h. part_at (n - 2) n vector e (omega arith)) in
       let third : d ≡ product z.m (λ e. all (n - 2 + 2 + e)) (λ e. at vector (n - 2 + 2 + e)) =
-      r ∙ product_same z.m _ _ _ (λ e h. sym (row_part e))
+      product_keys_in_part n (n + z.m) z.m (at row) vector refl (omega arith) r ∙ product_same z.m _ _ _ (λ e h. sym (row_part e))
       ∙ product_keys z.m _ _ _ (λ e h.
       let w : n + e ≡ n - 2 + 2 + e = omega arith in
-      part_at n (n + z.m) vector e (omega arith) ∙ ap (at vector) w) in
+      ap (at vector) w) in
       let tag : at response (sums_end + 12 + s) ≡ tag_in n z.tags response s = ap (at response) (omega arith) in
       ap₂ differs
       (ap₂ plus (ap₂ plus first second ∙ sym (product_split (n - 2) 2 all (at vector))) third
@@ -113,14 +115,12 @@ fails_filled z key id row response before s count {vector} enough fits filled w 
 
 -- ---- the combined row
 
--- the rows of the named places, as they were added to zeros
+-- the rows of the named places, as they were added to the first elements of zeros
 pub row_named : (z : Sizes) (c : Challenge) (rows : List ℕ) {bytes : List ℕ} → z.m ≤ 16
-    → bytes ≡ added z.m 0 (first_named c rows 0 z.m (length c.places)) (replicate 16 0)
+    → bytes ≡ put z.m 0 (first_named c rows z.m (length c.places)) (replicate 16 0)
     → record { bytes = bytes } ≡ kept z.m (named_row z rows c)
 unfolding named_row
-row_named z c rows low e =
-    row_stored z.m _ low (e ∙ added_zeros z.m 16 _ low)
-    ∙ kept_same z.m _ _ (λ i h. mixed_vectors (length c.places) _ _ _ i (λ j l. ap (at rows) (omega arith)))
+row_named z c rows low e = row_stored z.m _ low e
 
 -- ---- what Verdict's answer tells, and what is judged then
 
@@ -140,7 +140,7 @@ module _ (key id : List ℕ) (z : Sizes) (rows message response : List ℕ) wher
     pub response_length_lem : length response ≡ response_length z.n z.tags
     pub there : not_there z (challenge_of message) ≡ false
 
-  pub verdict_tells : answer ≡ Done → Judged
+  pub verdict_tells : answer ≡ done → Judged
   unfolding verdict_for
   verdict_tells e =
       let one = accepted _ _ _ e in
@@ -157,26 +157,26 @@ module _ (key id : List ℕ) (z : Sizes) (rows message response : List ℕ) wher
       }
 
   -- what is found of the row as it is kept
-  module _ (e : answer ≡ Done) {row : Row} (named : row ≡ kept z.m combined) {t : Bool} (w : t ≡ all_zero z.m (at row.bytes)) where
+  module _ (e : answer ≡ done) {row : Row} (named : row ≡ kept z.m combined) {t : Bool} (w : t ≡ all_zero z.m (at row.bytes)) where
     abbrev row_is : (i : ℕ) → i < z.m → at row.bytes i ≡ combined i
     row_is = kept_at z.m _ (ranged z (verdict_tells e).sized).m_high named
 
     zero_is : (b : Bool) → t ≡ b → all_zero z.m combined ≡ b
     zero_is b tested = sym (zero_same z.m _ _ row_is) ∙ sym w ∙ tested
 
-    pub verdict_unproved : t ≡ true → Refused ProvesNothing ≡ verdict_of key id z rows message response
+    pub verdict_unproved : t ≡ true → Err ProvesNothing ≡ verdict_of key id z rows message response
     unfolding verdict_of judgement
     verdict_unproved tested = sym (ap₂ (λ (o : Outcome) (nothing : Bool). judgement o nothing (accepts z (key_vector key id) combined response)) e (zero_is true tested))
 
     pub verdict_judged : t ≡ false → (b : Bool) {u : Bool}
         → u ≡ any_below z.tags (fails z (key_vector key id) (at row.bytes) response) → u ≡ b
-        → pick (not b) Accepted Rejected ≡ verdict_of key id z rows message response
+        → pick (not b) (Ok Accepted) (Ok Rejected) ≡ verdict_of key id z rows message response
     unfolding verdict_of judgement accepts
     verdict_judged tested b v found =
         let k = key_vector key id in
         let same = any_same z.tags _ _ (λ s l. fails_same z k k _ _ response s (λ i h. refl) row_is) in
         rw (e, zero_is false tested, ← same, ← v, found)
 
-  pub verdict_refused : {r : Refusal} → answer ≡ RefusedOutcome r → Refused r ≡ verdict_of key id z rows message response
+  pub verdict_refused : {r : Refusal} → answer ≡ Err r → Err r ≡ verdict_of key id z rows message response
   unfolding verdict_of judgement
   verdict_refused e = rw e

@@ -3,13 +3,11 @@
 
 mod judge;
 
-use answer::Refusal;
 pub use judge::{number, verdict};
 
-// What Verdict says.
-#[derive(Clone, Copy)]
+// What Verdict says where nothing is refused.
+#[derive(Clone, Copy, Debug, PartialEq, Eq)]
 pub enum Judgement {
     Accepted,
     Rejected,
-    Refused(Refusal),
 }

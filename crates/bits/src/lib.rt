@@ -34,7 +34,7 @@ fn bit_at(s: &[u8], from: usize, i: usize) -> usize
     requires { (i < 16) × (from + i < 8 * length s.now) }
     ensures { result ≡ bit (bit_at s.now (from + i)) }
 {
-    (lists::widen(s[byte_of(from, i)]) >> bits_after(from, i)) % 2
+    (usize::from(s[byte_of(from, i)]) >> bits_after(from, i)) % 2
 }
 
 // The byte b with v in the place of the old bit, which counts w.
@@ -52,7 +52,7 @@ fn set_bit(s: &mut [u8], from: usize, i: usize, v: usize)
 {
     let j = byte_of(from, i);
     let old = bit_at(s, from, i);
-    s[j] = replaced(lists::widen(s[j]), old, v, weight(from, i));
+    s[j] = replaced(usize::from(s[j]), old, v, weight(from, i));
 }
 
 // The field of `width` bits at bit `from`.
@@ -60,11 +60,7 @@ pub fn read_field(s: &[u8], from: usize, width: usize) -> usize
     requires { (width ≤ 16) × (from + width ≤ 8 * length s.now) }
     ensures { result ≡ field_at s.now from width }
 {
-    let mut value = 0;
-    for i in 0..width {
-        value = value * 2 + bit_at(s, from, i);
-    }
-    value
+    (0..width).fold(0, |value, i| value * 2 + bit_at(s, from, i))
 }
 
 // Writes the low `width` bits of value as the field at bit `from`; every other bit keeps its value.

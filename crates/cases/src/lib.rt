@@ -1,13 +1,14 @@
 // What the test programs share. One case a paragraph: its label, what is expected, what was got, and whether they are the same.
 #![tactic(auto)]
 
+use answer::Refusal;
 use std::io;
 
 mod archives;
+mod buffers;
 
-pub use archives::{
-    Bytes, LIVED, LIVED_OF_THREE, archive_kept, changed, changed_of_three, counted,
-};
+pub use archives::{Archive, LIVED, LIVED_OF_THREE};
+pub use buffers::{Buffer, Lent, first, kept, unchanged};
 
 // Of the lives in numbers: the id; the challenge to node 2, places 0 and 1, coefficients 07 and b5; the responses to it, of one tag and
 // of three.
@@ -49,25 +50,31 @@ pub fn number(rt: &impl Print, label: &str, expected: u64, got: u64) -> io::Resu
     verdict(rt, expected == got)
 }
 
-// What a refused call left of the bytes lent to it.
-pub fn unchanged(rt: &impl Print, before: &[u8], after: &[u8]) -> io::Result<()> {
-    if before == after {
-        println!(rt; "  nothing written")
-    } else {
-        println!(rt; "  WRITTEN")
-    }
+// What a call answers: 0 for what is done, else the refusal's number.
+pub fn answered<T: Copy>(
+    rt: &impl Print,
+    label: &str,
+    expected: u64,
+    answer: Result<T, Refusal>,
+) -> io::Result<()> {
+    number(rt, label, expected, u64::from(answer::number(answer)))
 }
 
-// What it left of 64 where each was a5.
-pub fn kept(rt: &impl Print, lent: [u8; 64]) -> io::Result<()> {
-    unchanged(rt, &[0xa5u8; 64], &lent)
+// The number that an answer counts; 255 where it is refused.
+pub fn counted(
+    rt: &impl Print,
+    label: &str,
+    expected: u64,
+    answer: Result<usize, Refusal>,
+) -> io::Result<()> {
+    number(rt, label, expected, answer.unwrap_or(255) as u64)
 }
 
-// A key whose bytes count up.
+// A key whose bytes count up from `first`.
 pub fn counting_key(first: u8) -> [u8; 32] {
     let mut key = [0u8; 32];
-    for i in 0u8..32 {
-        key[i as usize] = first % 128 + i;
+    for (byte, b) in key.iter_mut().zip(first..=255) {
+        *byte = b;
     }
     key
 }

@@ -1,12 +1,14 @@
 -- The choice among the first rows: none yet, and one row more, which is not taken or taken. Assumes nothing.
-use Prim.Native.Nat.{ℕ, ◌+◌, ◌<◌, ◌≤◌}
+use Prim.Native.Nat.{ℕ, ◌+◌, ◌*◌, ◌<◌, ◌≤◌}
 use mathlib.Core.Path.{◌≡◌, refl, sym, ap, subst, ◌∙◌}
-use mathlib.Core.Logic.{inr}
+use mathlib.Core.Logic.{inr, ⊎_elim}
 use mathlib.Core.Bool.{Bool, true, false, true≢false}
 use mathlib.Core.List.{List}
 use native.Mathlib.Omega.{arith}
 use borrow.Author.Count.{below_more}
+use lib.ListN.{length, get_or-eq_default}
 use Rattle.lists.specs.Lists.{at, over, how_many, pick}
+use Rattle.lists.proofs.TabLaws.{order}
 use Rattle.lists.proofs.OverLaws.{over_below, over_within, over_above}
 use Rattle.lists.proofs.CountLaws.{how_many_same, how_many_more, how_many_zero, how_many_less}
 use Rattle.field.specs.Field.{plus}
@@ -17,10 +19,18 @@ use Rattle.linear.specs.PrivateElimination.{Matrix, cells, Independent}
 use Rattle.linear.proofs.AlikeLaws.{independent_same}
 use Rattle.linear.proofs.LastRowLaws.{independent_more}
 use Rattle.choice.specs.declared.Chosen.{Chosen}
+use Rattle.choice.specs.declared.rows.Rows.{Rows}
 use Rattle.choice.specs.PrivateReduced.{Cleared, Pivot, Extended}
-use Rattle.choice.specs.PrivateChoice.{listed_rows, Choice, Progress}
+use Rattle.choice.specs.PrivateChoice.{row_at, listed_rows, Choice, Progress}
 use Rattle.choice.proofs.GatherLaws.{spanned_listed}
 use Rattle.choice.proofs.ReducedLaws.{spanned_if_zero, apart_if_not, basis_kept, basis_more}
+
+-- an element of a row is a byte
+pub row_byte : (rows : Rows) (j i : ℕ) → row_at rows j i < 256
+row_byte rows j i =
+    let u = rows.bytes.now in
+    let k = rows.start + j * rows.stride + i in
+    ⊎_elim (λ (h : k < length u). rows.all_bytes k h) (λ (h : length u ≤ k). let z : at u k ≡ 0 = get_or-eq_default u 0 h in omega (arith, z)) (order k (length u))
 
 module _ (m : ℕ) (row : Matrix) (candidate : ℕ → Bool) where
   -- ---- no row yet

@@ -1,2 +1,3 @@
 pub mod PrivateReduced
+pub mod PrivateStanding
 pub mod PrivateChoice

@@ -1,24 +1,19 @@
 -- What the private contracts cite: the choice of rows so far.
-use Rattle.std.specs.Prelude.{ℕ, ◌+◌, ◌*◌, ◌<◌, ◌≤◌, ◌≡◌, ◌⊎◌, Bool, true, false, not, List, eqb, length}
+use Rattle.std.specs.Prelude.{ℕ, ◌+◌, ◌*◌, ◌<◌, ◌≤◌, ◌≡◌, ◌⊎◌, Bool, true, false, List, get_or}
 use Rattle.lists.specs.Lists.{at, how_many}
 use Rattle.vector.specs.Taken.{only, Takes}
 use Rattle.linear.specs.PrivateElimination.{Matrix, cells, Independent}
-use Rattle.choice.specs.declared.Rows.{Rows}
+use Rattle.choice.specs.declared.rows.Rows.{Rows}
 use Rattle.choice.specs.declared.Chosen.{Chosen}
 use Rattle.choice.specs.PrivateReduced.{Basis}
 
 -- element i of row k
-abbrev pub row_at : (u : List ℕ) (rows : Rows) → Matrix
-row_at u rows k i = at u (rows.start + k * rows.stride + i)
-
--- at most 48 rows of at most 16 elements, and all stand in the bytes
-abbrev pub Standing : (rows : Rows) (u : List ℕ) → Type 0
-Standing rows u =
-    (rows.count ≤ 48) × (rows.m ≤ 16) × ((k : ℕ) → k < rows.count → rows.start + k * rows.stride + rows.m ≤ length u)
+abbrev pub row_at : (rows : Rows) → Matrix
+row_at rows k i = at rows.bytes.now (rows.start + k * rows.stride + i)
 
 -- row k is a candidate
-abbrev pub offered : (candidates : List ℕ) (k : ℕ) → Bool
-offered candidates k = not (eqb (at candidates k) 0)
+abbrev pub offered : (candidates : List Bool) (k : ℕ) → Bool
+offered candidates k = get_or candidates k false
 
 -- the rows that c lists
 abbrev pub listed_rows : (row : Matrix) (c : Chosen) → Matrix

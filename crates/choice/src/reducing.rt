@@ -1,7 +1,6 @@
 // A row against the rows that were reduced before it: each has a pivot of one, and stands at that index among zeros.
-ghost use Rattle.std.specs.Prelude.{◌<◌, ◌≤◌};
+ghost use Rattle.std.specs.Prelude.{◌<◌, ◌≤◌, MatchOption};
 ghost use Rattle.lists.specs.Lists.{at};
-ghost use Rattle.field.specs.PrivateTables.{FieldTables};
 ghost use Rattle.linear.specs.PrivateElimination.{cells};
 ghost use Rattle.choice.specs.PrivateReduced.{Echelon, Cleared, Pivot, Extended};
 
@@ -9,10 +8,11 @@ use field::Tables;
 
 // The row v, cleared at the pivots of the reduced rows.
 pub fn cleared(tables: &Tables, reduced: [[u8; 16]; 16], v: [u8; 16], m: usize) -> [u8; 16]
-    requires { FieldTables tables.now × (m ≤ 16) × Echelon m (cells reduced) }
+    requires { (m ≤ 16) × Echelon m (cells reduced) }
     ensures { Cleared m m (cells reduced) (at v) (at result) }
 {
     let mut out = v;
+    // by index: p is a row and its element
     for p in 0..m {
         if reduced[p][p] != 0 {
             out = linear::added_row(tables, out, reduced[p], out[p]);
@@ -21,22 +21,17 @@ pub fn cleared(tables: &Tables, reduced: [[u8; 16]; 16], v: [u8; 16], m: usize) 
     out
 }
 
-// The index of the first of m elements that is not zero, a row's pivot; m where there is none.
-pub fn pivot(v: [u8; 16], m: usize) -> usize
+// The index of the first of m elements that is not zero, a row's pivot.
+pub fn pivot(v: [u8; 16], m: usize) -> Option<usize>
     requires { m ≤ 16 }
-    ensures { Pivot m (at v) result }
+    ensures { MatchOption result (Pivot m (at v) m) (λ p. (p < m) × Pivot m (at v) p) }
 {
-    for p in 0..m {
-        if v[p] != 0 {
-            return p;
-        }
-    }
-    m
+    v[..m].iter().position(|x| *x != 0)
 }
 
 // The reduced rows with v among them, at its pivot p, which becomes one.
 pub fn extended(tables: &Tables, reduced: [[u8; 16]; 16], v: [u8; 16], p: usize) -> [[u8; 16]; 16]
-    requires { FieldTables tables.now × (p < 16) }
+    requires { p < 16 }
     ensures { Extended p (cells reduced) (at v) (cells result) }
 {
     let mut out = reduced;

@@ -1,33 +1,28 @@
 -- What Encode's answer tells, and what it writes: the block, its tags, and the mark. Assumes nothing.
 use Prim.Native.Nat.{ℕ, ◌+◌, ◌-◌, ◌*◌, ◌<◌, ◌≤◌}
-use mathlib.Core.Path.{◌≡◌, sym, ap, ap₂, ◌∙◌}
+use mathlib.Core.Path.{◌≡◌, refl, sym, ap, ap₂, ◌∙◌}
 use mathlib.Core.Bool.{true, false}
-use mathlib.Core.List.{List, [], ◌∷◌}
-use mathlib.Core.Logic.{⊎_elim}
+use mathlib.Core.List.{List, [], ◌∷◌, ◌++◌}
 use native.Mathlib.Omega.{arith}
 use lib.Dec.{leb}
 use lib.ListN.{length}
 use borrow.Author.Tests.{lt-ltb, le-ltb, leb-false}
-use Rattle.lists.specs.Lists.{at, put, grid, over, any_of}
-use Rattle.lists.proofs.TabLaws.{order}
+use borrow.Rule.Slice.PartMut.{put_mid}
+use Rattle.lists.specs.Lists.{at, tab, put, grid, over, any_of}
+use Rattle.lists.proofs.TabLaws.{length_tab, tab_at, elements}
 use Rattle.lists.proofs.AnyLaws.{none_at}
-use Rattle.lists.proofs.PutLaws.{length_put, put_below, put_above, put_at, put_put, put_same, is_put}
+use Rattle.lists.proofs.SliceLaws.{put_written}
 use Rattle.answer.specs.Refusals.{Passed}
 use Rattle.answer.proofs.RefusalLaws.{accepted, same}
-use Rattle.field.specs.Field.{plus}
 use Rattle.field.proofs.SumLaws.{sum_same}
 use Rattle.keystream.specs.declared.stream.Stream.{Stream}
 use Rattle.keystream.specs.PrivateStream.{drawn, after}
 use Rattle.sizes.specs.declared.Sizes.{Sizes}
-use Rattle.vector.specs.Vectors.{product, mixed, added}
+use Rattle.vector.specs.Vectors.{product, mixed}
 use Rattle.tag.specs.KeyVector.{key_vector, with_tags}
 use Rattle.sizes.proofs.SizeLaws.{Ranged}
 use Rattle.tag.specs.PrivateKeyStream.{GivesKeyVector}
-use Rattle.vector.proofs.VectorLaws.{mixed_same, product_same, product_keys}
-use Rattle.vector.proofs.AddedLaws.{length_added, added_at, added_below, added_above}
-use Rattle.linear.specs.declared.rows.Row.{Row}
-use Rattle.linear.specs.PrivateRows.{kept}
-use Rattle.linear.proofs.KeptLaws.{kept_at}
+use Rattle.vector.proofs.VectorLaws.{product_same, product_keys}
 use Rattle.sizes.specs.Lengths.{block_length, record_length, record_start, place_count, place_number, file_length, padding_length}
 use Rattle.archive.specs.Layout.{sizes_of, id_of, mark_at, with_marks, stored}
 use Rattle.archive.specs.Blocks.{source, coded, coded_record}
@@ -36,6 +31,7 @@ use Rattle.sizes.proofs.PlaceLaws.{number_low, count_low, record_fits}
 use Rattle.archive.proofs.GoodArchiveLaws.{good_sizes, good_length, good_id}
 use Rattle.archive.proofs.StoreLaws.{length_marks}
 use Rattle.archive.proofs.BlockLaws.{source_file, coded_row}
+use Rattle.coding.proofs.CombinedLaws.{joined}
 
 -- ---- the answer
 
@@ -87,98 +83,40 @@ module _ (z : Sizes) (file padding row : List ℕ) where
       let q : z.n - 2 + e - (z.n - 2) ≡ e = omega arith in
       rw (le-ltb (z.n - 2 + e) (z.n - 2) (omega arith), lt-ltb (z.n - 2 + e) z.n (omega arith), q)
 
-  -- the combinations that are added, as the code finds their coefficients and vectors
+  -- the combinations, as the code finds their coefficients and vectors
   abbrev file_mixed : ℕ → ℕ
-  file_mixed = mixed z.m (λ i. at row (0 + i * 1)) (λ i e. at file (0 + i * (z.n - 2) + e))
+  file_mixed = mixed z.m (λ i. at row (i * 1)) (λ i e. at file (i * (z.n - 2) + e))
 
   abbrev padding_mixed : ℕ → ℕ
-  padding_mixed = mixed z.m (λ i. at row (0 + i * 1)) (λ i e. at padding (0 + i * 2 + e))
+  padding_mixed = mixed z.m (λ i. at row (i * 1)) (λ i e. at padding (i * 2 + e))
 
   file_coded : (e : ℕ) → e < z.n - 2 → file_mixed e ≡ coded z file padding (at row) e
   unfolding coded mixed
   file_coded e h =
       sum_same z.m _ _ (λ i g.
-      let p : 0 + i * 1 ≡ i = omega arith in
-      let q : 0 + i * (z.n - 2) + e ≡ i * (z.n - 2) + e = omega arith in
-      rw (p, q, source_file z file padding i e h))
+      let p : i * 1 ≡ i = omega arith in
+      rw (p, source_file z file padding i e h))
 
   padding_coded : (e : ℕ) → 2 ≤ z.n → e < 2 → padding_mixed e ≡ coded z file padding (at row) (z.n - 2 + e)
   unfolding coded mixed
   padding_coded e l h =
       sum_same z.m _ _ (λ i g.
-      let p : 0 + i * 1 ≡ i = omega arith in
-      let q : 0 + i * 2 + e ≡ i * 2 + e = omega arith in
-      rw (p, q, source_padding i e l h))
+      let p : i * 1 ≡ i = omega arith in
+      rw (p, source_padding i e l h))
 
-  -- zeroed, then the file's combination added, then the padding's
-  module _ (start : ℕ) (d : List ℕ) (low : 2 ≤ z.n) (fits : start + block_length z ≤ length d) where
-    abbrev zeroed : List ℕ
-    zeroed = put z.n start (λ i. 0) d
-
-    abbrev filed : List ℕ
-    filed = added (z.n - 2) start file_mixed zeroed
-
-    abbrev padded : List ℕ
-    padded = added 2 (start + (z.n - 2)) padding_mixed filed
-
-    long_zeroed : length zeroed ≡ length d
-    long_zeroed = length_put z.n start _ d
-
-    long_filed : length filed ≡ length d
-    long_filed = length_added (z.n - 2) start file_mixed zeroed ∙ long_zeroed
-
-    zero_at : (e : ℕ) → e < z.n → at zeroed (start + e) ≡ 0
-    zero_at e h = put_at z.n start _ d e h (omega arith)
-
-    below : (k : ℕ) → k < start → at padded k ≡ at d k
-    below k h =
-        added_below 2 (start + (z.n - 2)) padding_mixed filed k (omega arith) ∙ added_below (z.n - 2) start file_mixed zeroed k h
-        ∙ put_below z.n start _ d k h
-
-    above : (k : ℕ) → start + z.n ≤ k → at padded k ≡ at d k
-    above k h =
-        added_above 2 (start + (z.n - 2)) padding_mixed filed k (omega arith) ∙ added_above (z.n - 2) start file_mixed zeroed k (omega arith)
-        ∙ put_above z.n start _ d k h
-
-    in_file : (e : ℕ) → e < z.n - 2 → at padded (start + e) ≡ coded z file padding (at row) e
-    in_file e h =
-        added_below 2 (start + (z.n - 2)) padding_mixed filed (start + e) (omega arith)
-        ∙ added_at (z.n - 2) start file_mixed zeroed e h (omega (arith, long_zeroed))
-        ∙ ap (λ (x : ℕ). plus x (file_mixed e)) (zero_at e (omega arith)) ∙ file_coded e h
-
-    in_padding : (e : ℕ) → e < 2 → at padded (start + (z.n - 2 + e)) ≡ coded z file padding (at row) (z.n - 2 + e)
-    in_padding e h =
-        let q : start + (z.n - 2) + e ≡ start + (z.n - 2 + e) = omega arith in
-        let none : at filed (start + (z.n - 2) + e) ≡ 0 =
-        added_above (z.n - 2) start file_mixed zeroed (start + (z.n - 2) + e) (omega arith) ∙ ap (at zeroed) q ∙ zero_at (z.n - 2 + e) (omega arith) in
-        ap (at padded) (sym q) ∙ added_at 2 (start + (z.n - 2)) padding_mixed filed e h (omega (arith, long_filed))
-        ∙ ap (λ (x : ℕ). plus x (padding_mixed e)) none ∙ padding_coded e low h
-
-    front : padded ≡ put z.n start (coded z file padding (at row)) d
-    front =
-        is_put z.n start _ d padded (length_added 2 (start + (z.n - 2)) padding_mixed filed ∙ long_filed) (omega arith)
-        (λ e h.
-        ⊎_elim (in_file e)
-        (λ (l : z.n - 2 ≤ e). let q : e ≡ z.n - 2 + (e - (z.n - 2)) = omega arith in rw q (in_padding (e - (z.n - 2)) (omega arith)))
-        (order e (z.n - 2)))
-        below above
-
-    -- and then the row stored
-    pub block_written : {a b c w : List ℕ} → ((i : ℕ) → i < z.m → at row i < 256) → a ≡ zeroed → b ≡ added (z.n - 2) start file_mixed a
-        → c ≡ added 2 (start + (z.n - 2)) padding_mixed b → w ≡ put z.m (start + z.n) (λ i. at row (0 + i)) c
-        → w ≡ put (block_length z) start (coded z file padding (at row)) d
-    block_written bytes p q r e =
-        e ∙ ap (put z.m (start + z.n) _) (r ∙ ap (added 2 (start + (z.n - 2)) padding_mixed) (q ∙ ap (added (z.n - 2) start file_mixed) p) ∙ front)
-        ∙ put_same z.m (start + z.n) _ (λ i. coded z file padding (at row) (z.n + i)) _
-        (λ i h. let o : 0 + i ≡ i = omega arith in rw o (sym (coded_row z file padding (at row) i h (bytes i h))))
-        ∙ put_put z.n z.m start _ d
-
--- a row that is kept combines as it was given
-kept_coded : (z : Sizes) (file padding row : List ℕ) {r : Row} → z.m ≤ 16 → r ≡ kept z.m (λ i. at row (0 + i))
-    → (e : ℕ) → coded z file padding (at r.bytes) e ≡ coded z file padding (at row) e
-unfolding coded
-kept_coded z file padding row h rows e =
-    mixed_same z.m _ _ _ e (λ i l. kept_at z.m _ h rows i l ∙ ap (at row) (omega arith))
+  -- the file's combination, the padding's and the row
+  pub block_written : {front end last : List ℕ} → 2 ≤ z.n → length row ≡ z.m → ((i : ℕ) → at row i < 256) → front ≡ tab (z.n - 2) file_mixed
+      → end ≡ tab 2 padding_mixed → last ≡ row → front ++ (end ++ last) ≡ tab (block_length z) (coded z file padding (at row))
+  block_written {front} {end} {last} low long bytes files pads rows =
+      let of : ℕ → ℕ = coded z file padding (at row) in
+      let size : z.n - 2 + (2 + z.m) ≡ block_length z = omega arith in
+      let behind : end ++ last ≡ tab (2 + z.m) (λ i. of (z.n - 2 + i)) =
+      ap₂ (λ (x y : List ℕ). x ++ y) pads (rows ∙ sym (elements z.m row long))
+      ∙ joined 2 z.m padding_mixed (at row) (λ i. of (z.n - 2 + i)) (λ e h. padding_coded e low h)
+      (λ i h. let q : z.n - 2 + (2 + i) ≡ z.n + i = omega arith in sym (coded_row z file padding (at row) i h (bytes i)) ∙ ap of (sym q)) in
+      ap₂ (λ (x y : List ℕ). x ++ y) files behind
+      ∙ joined (z.n - 2) (2 + z.m) file_mixed (λ i. of (z.n - 2 + i)) of file_coded (λ i h. refl)
+      ∙ ap (λ (n : ℕ). tab n of) size
 
 -- ---- the record
 
@@ -192,24 +130,26 @@ with_tags_tag len vectors block k =
     let q : len + k - len ≡ k = omega arith in
     rw (le-ltb (len + k) len (omega arith), q)
 
--- behind a block, tags were stored; the next one is the block's product with the stream that gives its key vector
-pub tag_drawn : (len start k : ℕ) (key id : List ℕ) (f : ℕ → ℕ) (d : List ℕ) {s : List ℕ} (v : Stream) {tag : ℕ} → GivesKeyVector key id k v
-    → s ≡ put k (start + len) f d → tag ≡ product len (λ e. at s (start + e)) (λ e. (drawn (after e v)).byte)
-    → tag ≡ product len (λ e. at d (start + e)) (key_vector key id k)
-tag_drawn len start k key id f d v gives stored tags =
-    tags ∙ product_keys len _ _ (key_vector key id k) (λ e h. gives e)
-    ∙ product_same len _ _ (key_vector key id k) (λ e h. rw stored (put_below k (start + len) f d (start + e) (omega arith)))
+-- a block's product with the stream that gives its key vector
+pub tag_drawn : (k : ℕ) (key id block : List ℕ) (v : Stream) {tag : ℕ} → GivesKeyVector key id k v
+    → tag ≡ product (length block) (at block) (λ e. (drawn (after e v)).byte) → tag ≡ product (length block) (at block) (key_vector key id k)
+tag_drawn k key id block v gives tags = tags ∙ product_keys (length block) _ _ (key_vector key id k) (λ e h. gives e)
 
--- a block is written, and behind it its products with the key vectors
-record_written : (len tags start : ℕ) (block : ℕ → ℕ) (key id d : List ℕ) {w r : List ℕ} → start + len ≤ length d → w ≡ put len start block d
-    → r ≡ put tags (start + len) (λ k. product len (λ e. at w (start + e)) (key_vector key id k)) w
-    → r ≡ put (len + tags) start (with_tags len (key_vector key id) block) d
-record_written len tags start block key id d {w} fits blocks made =
-    made
-    ∙ put_same tags (start + len) _ (λ k. with_tags len (key_vector key id) block (len + k)) w (λ k h.
-    product_same len _ block (key_vector key id k) (λ e l. rw blocks (put_at len start block d e l fits)) ∙ sym (with_tags_tag len (key_vector key id) block k))
-    ∙ ap (put tags (start + len) _) (blocks ∙ put_same len start block _ d (λ e h. sym (with_tags_block len (key_vector key id) block e h)))
-    ∙ put_put len tags start (with_tags len (key_vector key id) block) d
+-- a block, and behind it its products with the key vectors
+pub record_written : (z : Sizes) (file padding row key id : List ℕ) {w r : List ℕ} {tags : ℕ} → tags ≡ z.tags → w ≡ tab (block_length z) (coded z file padding (at row))
+    → r ≡ tab tags (λ k. product (length w) (at w) (key_vector key id k)) → w ++ r ≡ tab (record_length z) (coded_record z (key_vector key id) file padding (at row))
+unfolding coded_record
+record_written z file padding row key id {w} {r} count blocks made =
+    let len : ℕ = block_length z in
+    let block : ℕ → ℕ = coded z file padding (at row) in
+    let size : length w ≡ len = ap length blocks ∙ length_tab len block in
+    let tag : ℕ → ℕ = λ k. product len (at w) (key_vector key id k) in
+    let made-is : r ≡ tab z.tags tag = rw (size, count) at made in
+    ap₂ (λ (x y : List ℕ). x ++ y) blocks made-is
+    ∙ joined len z.tags block tag (with_tags len (key_vector key id) block) (λ e h. sym (with_tags_block len (key_vector key id) block e h))
+    (λ k h.
+    product_same len (at w) block (key_vector key id k) (λ e l. ap (λ (x : List ℕ). at x e) blocks ∙ tab_at len block e l)
+    ∙ sym (with_tags_tag len (key_vector key id) block k))
 
 -- ---- the archive
 
@@ -223,18 +163,19 @@ encode_effect z s node place file padding key row =
     let first : record_start z (place_number z node place) + 0 * record_length z ≡ record_start z (place_number z node place) = omega arith in
     rw first
 
--- the steps of the code: the sizes read, the marks set, the block written, the tags behind it
-pub place_filled : (z : Sizes) (s : List ℕ) (node place : ℕ) (file padding key row : List ℕ) {i u w made : List ℕ} {r : Row} {start : ℕ}
-    → z ≡ sizes_of s → Encodable z s node place file padding key row → start ≡ record_start z (place_number z node place) → i ≡ id_of s
-    → u ≡ with_marks (over (place_number z node place) 1 (λ i. true) (mark_at s)) s
-    → r ≡ kept z.m (λ i. at row (0 + i)) → w ≡ put (block_length z) start (coded z file padding (at r.bytes)) u
-    → made ≡ put z.tags (start + block_length z) (λ k. product (block_length z) (λ e. at w (start + e)) (key_vector key i k)) w
-    → made ≡ effect_for (sizes_of s) (id_of s) s (encode node place file padding key row)
-unfolding coded_record
-place_filled z s node place file padding key row {u = u} {start = start} read ok starts ids marks rows blocks tags =
-    let long : length u ≡ length s = ap length marks ∙ length_marks _ s in
-    let written = blocks ∙ put_same (block_length z) start _ _ u (λ e h. kept_coded z file padding row ok.sizes.m_high rows e) in
-    record_written (block_length z) z.tags start (coded z file padding (at row)) key (id_of s) u (omega (arith, ok.fits)) written (rw ids at tags)
-    ∙ ap₂ (λ (from : ℕ) (d : List ℕ). put (record_length z) from (coded_record z (key_vector key (id_of s)) file padding (at row)) d) starts marks
-    ∙ encode_effect z s node place file padding key row
-    ∙ ap (λ (x : Sizes). effect_for x (id_of s) s (encode node place file padding key row)) read
+module _ (z : Sizes) (s : List ℕ) (node place : ℕ) (file padding key row : List ℕ) {start len : ℕ} (ok : Encodable z s node place file padding key row)
+    (starts : start ≡ record_start z (place_number z node place)) (lens : len ≡ record_length z) where
+  -- the place's record is in the archive
+  pub part_fits : start + len ≤ length s
+  part_fits = omega (arith, ok.fits)
+
+  -- the steps of the code: the sizes read, the marks set, the record written to its part
+  pub place_filled : {i u w : List ℕ} {k : ℕ} → z ≡ sizes_of s → i ≡ id_of s → u ≡ with_marks (over (place_number z node place) 1 (λ i. true) (mark_at s)) s → k ≡ len
+      → w ≡ tab (record_length z) (coded_record z (key_vector key i) file padding (at row))
+      → put_mid start k u w ≡ effect_for (sizes_of s) (id_of s) s (encode node place file padding key row)
+  place_filled {u = u} {w = w} read ids marks size record-is =
+      let made : w ≡ tab (record_length z) (coded_record z (key_vector key (id_of s)) file padding (at row)) = rw ids at record-is in
+      put_written (record_length z) start _ u (size ∙ lens) (omega (arith, part_fits, ap length marks ∙ length_marks _ s)) made
+      ∙ ap₂ (λ (from : ℕ) (d : List ℕ). put (record_length z) from (coded_record z (key_vector key (id_of s)) file padding (at row)) d) starts marks
+      ∙ encode_effect z s node place file padding key row
+      ∙ ap (λ (x : Sizes). effect_for x (id_of s) s (encode node place file padding key row)) read

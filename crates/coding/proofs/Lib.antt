@@ -1,2 +1,3 @@
+pub mod CombinedLaws
 pub mod EncodeLaws
 pub mod RepairLaws

@@ -1,6 +1,6 @@
 -- What Repair's answer tells, and what it writes: the repair blocks, and the target's marks and records. Assumes nothing.
-use Prim.Native.Nat.{ℕ, ◌+◌, ◌*◌, ◌/◌, ◌%◌, ◌<◌, ◌≤◌}
-use mathlib.Core.Path.{◌≡◌, sym, ap, ◌∙◌}
+use Prim.Native.Nat.{ℕ, ◌+◌, ◌-◌, ◌*◌, ◌/◌, ◌%◌, ◌<◌, ◌≤◌}
+use mathlib.Core.Path.{◌≡◌, refl, sym, ap, ◌∙◌}
 use mathlib.Core.Bool.{Bool, true, false, ◌||◌}
 use mathlib.Core.List.{List}
 use native.Mathlib.Nat.{mul-le-mul, mul-le-mul_right, div-add-mod', div-lt_iff_lt-mul}
@@ -10,13 +10,14 @@ use lib.ListN.{length}
 use borrow.Author.Tests.{leb-false}
 use Rattle.lists.specs.Lists.{at, grid, over, any_below}
 use Rattle.lists.proofs.AnyLaws.{none_at, any_below_lem, or_false}
+use Rattle.lists.proofs.PartLaws.{part, part_at}
 use Rattle.lists.proofs.PutLaws.{grid_same, grid_all, flat_at}
 use Rattle.answer.specs.Refusals.{Passed, outside}
 use Rattle.answer.proofs.RefusalLaws.{accepted, same, inside}
 use Rattle.field.proofs.SumLaws.{sum_same}
 use Rattle.sizes.specs.declared.Sizes.{Sizes}
 use Rattle.vector.specs.Vectors.{mixed}
-use Rattle.vector.proofs.VectorLaws.{mixed_vectors}
+use Rattle.vector.proofs.VectorLaws.{mixed_same, mixed_vectors}
 use Rattle.sizes.proofs.SizeLaws.{Ranged}
 use Rattle.sizes.specs.Lengths.{record_length, archive_length, record_start, place_number, record_most}
 use Rattle.archive.specs.Layout.{sizes_of, id_of, mark_at, byte_in, bad_archive, with_marks, stored}
@@ -29,7 +30,7 @@ use Rattle.archive.proofs.RepairedLaws.{target_mixed}
 -- ---- sizes
 
 module _ (z : Sizes) (R : Ranged z) where
-  pub record_in : (node place : ℕ) → node < z.nodes → place < z.places → record_start z (place_number z node place) + record_length z ≤ archive_length z
+  record_in : (node place : ℕ) → node < z.nodes → place < z.places → record_start z (place_number z node place) + record_length z ≤ archive_length z
   record_in node place h hp = record_fits z (place_number z node place) (number_low z R node place h hp)
 
 -- the first records of a node, one more than k
@@ -57,6 +58,7 @@ pub record Repairable (z : Sizes) (s : List ℕ) (target : ℕ) (helpers : List 
   pub good : bad_archive s ≡ false
   pub sizes : Ranged z
   pub long : length s ≡ archive_length z
+  pub helpers_low : 1 ≤ length helpers
   pub helpers_high : length helpers ≤ 5
   pub q_low : 1 ≤ q
   pub q_high : q ≤ 8
@@ -72,6 +74,7 @@ module _ (s : List ℕ) (target : ℕ) (helpers : List ℕ) (q : ℕ) (gammas th
   accepted_repair ok =
       let a = accepted _ _ _ ok in
       let n = accepted _ _ _ a.1 in
+      let P = inside 1 5 (length helpers) (none_at _ 0 n.0) in
       let Q = inside 1 8 q (none_at _ 1 n.0) in
       let l = accepted _ _ _ n.1 in
       let p = (accepted _ _ _ l.1).0 in
@@ -79,7 +82,8 @@ module _ (s : List ℕ) (target : ℕ) (helpers : List ℕ) (q : ℕ) (gammas th
         good = a.0;
         sizes = good_sizes s a.0;
         long = good_length s a.0;
-        helpers_high = (inside 1 5 (length helpers) (none_at _ 0 n.0)).1;
+        helpers_low = P.0;
+        helpers_high = P.1;
         q_low = Q.0;
         q_high = Q.1;
         gammas_length = same _ _ (none_at _ 0 l.0);
@@ -149,14 +153,18 @@ module _ {z : Sizes} {s helpers : List ℕ} {q : ℕ} {gammas scratch : List ℕ
       }
 
   -- block t, as the code finds its coefficients and records
-  pub block_made : (t e : ℕ) {first h : ℕ} → h ≡ at helpers (t / q) → first ≡ record_start z (h * z.places)
-      → mixed z.places (λ l. at gammas (t * z.places + l * 1)) (λ l e. at s (first + l * len + e)) e ≡ repair_byte z s helpers q gammas (t / q) (t % q) e
+  pub block_made : (t e : ℕ) {first h : ℕ} → e < len → h ≡ at helpers (t / q) → first ≡ record_start z (h * z.places)
+      → mixed z.places (λ l. at (part (t * z.places) ((t + 1) * z.places) gammas) (l * 1)) (λ l e. at (part first (first + z.places * len) s) (l * len + e)) e
+      ≡ repair_byte z s helpers q gammas (t / q) (t % q) e
   unfolding mixed repair_byte byte_in
-  block_made t e {first} is starts =
+  block_made t e {first} low is starts =
       sum_same z.places _ _ (λ l k.
-      let c : t * z.places + l * 1 ≡ (t / q * q + t % q) * z.places + l = rw (div-add-mod' t q) (omega arith) in
-      let v : first + l * len + e ≡ record_start z (place_number z (at helpers (t / q)) l) + e = rw (starts, known.len_is, is) (omega arith) in
-      rw (c, v))
+      let c : at (part (t * z.places) ((t + 1) * z.places) gammas) (l * 1) ≡ at gammas ((t / q * q + t % q) * z.places + l) =
+      part_at (t * z.places) ((t + 1) * z.places) gammas (l * 1) (omega arith) ∙ ap (at gammas) (rw (div-add-mod' t q) (omega arith)) in
+      let in_part : l * len + e < first + z.places * len - first = omega (arith, mul-le-mul_right {m = l + 1} {n = z.places} len (omega arith)) in
+      let v : at (part first (first + z.places * len) s) (l * len + e) ≡ at s (record_start z (place_number z (at helpers (t / q)) l) + e) =
+      part_at first (first + z.places * len) s (l * len + e) in_part ∙ ap (at s) (rw (starts, known.len_is, is) (omega arith)) in
+      rw (c, v) refl)
 
   -- all blocks are made
   pub blocks_made : {made : List ℕ} {t : ℕ} → z ≡ sizes_of s → t ≡ length helpers * q
@@ -168,16 +176,33 @@ module _ {z : Sizes} {s helpers : List ℕ} {q : ℕ} {gammas scratch : List ℕ
 
 -- ---- the target's records
 
--- record k, as the code finds its coefficients and the repair blocks
-pub record_made : (count places len k e : ℕ) (thetas scratch : List ℕ)
-    → mixed count (λ t. at thetas (k + t * places)) (λ t e. at scratch (0 + t * len + e)) e
+-- place k of the target: its number, its record, where its coefficients begin and end
+pub record Place (z : Sizes) (s thetas : List ℕ) (count target k : ℕ) : Type 0 where
+  pub number : target * z.places + k < 48
+  pub fits : record_start z (target * z.places + k) + record_length z ≤ length s
+  pub first : k ≤ length thetas
+  pub last : (count - 1) * z.places + k < length thetas
+
+pub place : {z : Sizes} {s helpers gammas thetas : List ℕ} {target q scratch : ℕ} (ok : Repairable z s target helpers q gammas thetas scratch) (k : ℕ) → k < z.places
+    → Place z s thetas (length helpers * q) target k
+place {z} {helpers = helpers} {target = target} {q = q} ok k low =
+    let some : 1 ≤ length helpers * q = mul-le-mul {n₁ = 1} {m₁ = 1} ok.helpers_low ok.q_low in
+    let count = length helpers * q in
+    let end : (count - 1) * z.places + k < count * z.places = omega (arith, mul-le-mul_right {m = count - 1 + 1} {n = count} z.places (omega arith)) in
+    record {
+      number = number_mark z ok.sizes target k ok.target_low low;
+      fits = omega (arith, record_in z ok.sizes target k ok.target_low low, ok.long);
+      first = omega (arith, end, ok.thetas_length);
+      last = omega (arith, end, ok.thetas_length);
+    }
+
+-- record k, as the code finds its coefficients
+pub record_made : (count places len k e : ℕ) (thetas scratch : List ℕ) → k < places → length thetas ≡ count * places
+    → mixed count (λ t. at (part k (length thetas) thetas) (t * places)) (λ t e. at scratch (t * len + e)) e
     ≡ mixed count (λ t. at thetas (t * places + k)) (λ t e. at scratch (t * len + e)) e
-unfolding mixed
-record_made count places len k e thetas scratch =
-    sum_same count _ _ (λ t h.
-    let c : k + t * places ≡ t * places + k = omega arith in
-    let v : 0 + t * len + e ≡ t * len + e = omega arith in
-    rw (c, v))
+record_made count places len k e thetas scratch low long =
+    mixed_same count _ _ (λ t e. at scratch (t * len + e)) e (λ t h.
+    part_at k (length thetas) thetas (t * places) (omega (arith, mul-le-mul_right {m = t + 1} {n = count} places (omega arith))) ∙ ap (at thetas) (omega arith))
 
 module _ (z : Sizes) (s helpers : List ℕ) (q : ℕ) (gammas thetas : List ℕ) where
   -- the combination of the blocks in a row is that of the definition, helper by helper

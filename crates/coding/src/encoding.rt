@@ -1,22 +1,23 @@
 // Encode: one place is filled from the source blocks.
-ghost use Rattle.std.specs.Prelude.{◌≡◌, false, ℕ, ◌+◌, ◌≤◌, length};
-ghost use Rattle.lists.specs.Lists.{at, put};
+ghost use Rattle.std.specs.Prelude.{◌≡◌, false, ℕ, ◌≤◌, length, take};
+ghost use Rattle.lists.specs.Lists.{at, tab};
 ghost use Rattle.answer.specs.Refusals.{Passed};
-ghost use Rattle.field.specs.PrivateTables.{FieldTables};
 ghost use Rattle.sizes.specs.Sizes.{sizes_outside};
-ghost use Rattle.sizes.specs.Lengths.{block_length, file_length, padding_length, key_length, id_length, tags_most};
+ghost use Rattle.sizes.specs.Lengths.{block_length, record_length, file_length, padding_length, tags_most};
 ghost use Rattle.vector.specs.Vectors.{product};
 ghost use Rattle.tag.specs.KeyVector.{key_vector};
 ghost use Rattle.archive.specs.Layout.{sizes_of, id_of};
-ghost use Rattle.archive.specs.Blocks.{coded};
+ghost use Rattle.archive.specs.Blocks.{coded, coded_record};
 ghost use Rattle.archive.specs.Calls as Calls;
 ghost use Rattle.archive.specs.Calls.{archive_answer, effect_for, archive_after};
 
-use answer::{Outcome, Refusal};
+use answer::Refusal;
 use archive::{bad_archive, id_in, marked, set_marks, sizes_in};
 use field::Tables;
+use keystream::Key;
 use linear::Row;
-use sizes::{Sizes, record_start};
+use sizes::{Sizes, record_length, record_start};
+use tag::Id;
 
 // The first refusal of Encode.
 fn encode_check(
@@ -27,7 +28,7 @@ fn encode_check(
     padding: &[u8],
     tag_key: &[u8],
     row: &[u8],
-) -> Outcome
+) -> Result<(), Refusal>
     ensures { let archive = archive.entry.now in
         let file = file.entry.now in
         let padding = padding.entry.now in
@@ -36,7 +37,7 @@ fn encode_check(
         result ≡ archive_answer archive (Calls.encode node place file padding tag_key row) }
 {
     if bad_archive(archive) {
-        return Outcome::Refused(Refusal::BadArchive);
+        return Err(Refusal::BadArchive);
     }
     let z = sizes_in(archive);
     if (file.len() != z.m * (z.n - 2))
@@ -44,82 +45,73 @@ fn encode_check(
         | (tag_key.len() != sizes::KEY_LENGTH)
         | (row.len() != z.m)
     {
-        return Outcome::Refused(Refusal::Length);
+        return Err(Refusal::Length);
     }
     if (z.nodes <= node) | (z.places <= place) {
-        return Outcome::Refused(Refusal::NoSuchPlace);
+        return Err(Refusal::NoSuchPlace);
     }
     if marked(archive, node * z.places + place) {
-        return Outcome::Refused(Refusal::PlaceFilled);
+        return Err(Refusal::PlaceFilled);
     }
-    Outcome::Done
+    Ok(())
 }
 
-// The source blocks combined by a row, into the block that starts at `start`.
-fn write_block(
-    tables: &Tables,
+// The source blocks combined by a row, and the row behind them.
+fn write_block(tables: &Tables, z: Sizes, file: &[u8], padding: &[u8], row: &[u8], block: &mut [u8])
+    requires { (sizes_outside z ≡ false)
+        × (length file.now ≡ file_length z)
+        × (length padding.now ≡ padding_length z)
+        × (length row.now ≡ z.m)
+        × (length block.old ≡ block_length z) }
+    ensures { let file = file.entry.now in
+        let padding = padding.entry.now in
+        let row = row.entry.now in
+        block.new ≡ tab (block_length z) (coded z file padding (at row)) }
+{
+    let (data, rest) = block.split_at_mut(z.n - 2);
+    let (end, coefficients) = rest.split_at_mut(2);
+    data.fill(0);
+    vector::combine(tables, z.m, row, 1, file, data);
+    end.fill(0);
+    vector::combine(tables, z.m, row, 1, padding, end);
+    coefficients.copy_from_slice(row);
+}
+
+// The tags of a block.
+fn write_tags(tables: &Tables, tag_key: Key, id: Id, block: &[u8], tags: &mut [u8])
+    requires { length tags.old ≤ tags_most }
+    ensures { let block = block.entry.now in
+        let tag : ℕ → ℕ = λ k. product (length block) (at block) (key_vector tag_key id k) in
+        tags.new ≡ tab (length tags.old) tag }
+{
+    for (k, tag) in tags.iter_mut().enumerate() {
+        *tag = tag::product_drawn(tables, block, tag::key_stream(tag_key, id, k));
+    }
+}
+
+// The block, and its tags behind it.
+fn write_record(
     z: Sizes,
     file: &[u8],
     padding: &[u8],
     row: Row,
-    archive: &mut [u8],
-    start: usize,
+    tag_key: Key,
+    id: Id,
+    out: &mut [u8],
 )
-    requires { FieldTables tables.now
-        × (sizes_outside z ≡ false)
+    requires { (sizes_outside z ≡ false)
         × (length file.now ≡ file_length z)
         × (length padding.now ≡ padding_length z)
-        × (start + block_length z ≤ length archive.old) }
+        × (length out.old ≡ record_length z) }
     ensures { let file = file.entry.now in
         let padding = padding.entry.now in
-        archive.new ≡ put (block_length z) start (coded z file padding (at row.bytes)) archive.old }
+        out.new
+        ≡ tab (record_length z) (coded_record z (key_vector tag_key id) file padding (at (take z.m row.bytes))) }
 {
-    let n = z.n;
-    let m = z.m;
-    let elements = row.bytes;
-    lists::zero(archive, start, n);
-    vector::combine(tables, m, &elements, 0, 1, file, 0, archive, start, n - 2);
-    vector::combine(
-        tables,
-        m,
-        &elements,
-        0,
-        1,
-        padding,
-        0,
-        archive,
-        start + (n - 2),
-        2,
-    );
-    lists::store(&elements, 0, archive, start + n, m);
-}
-
-// The tags of the len bytes from `start` on, behind them.
-fn write_tags(
-    tables: &Tables,
-    tag_key: &[u8],
-    id: &[u8],
-    tags: usize,
-    archive: &mut [u8],
-    start: usize,
-    len: usize,
-)
-    requires { FieldTables tables.now
-        × (length tag_key.now ≡ key_length)
-        × (length id.now ≡ id_length)
-        × (tags ≤ tags_most)
-        × (start + (len + tags) ≤ length archive.old) }
-    ensures { let tag_key = tag_key.now in
-        let id = id.entry.now in
-        let s = archive.old in
-        let tag : ℕ → ℕ = λ k. product len (λ e. at s (start + e)) (key_vector tag_key id k) in
-        archive.new ≡ put tags (start + len) tag s }
-{
-    for k in 0..tags {
-        let vector = tag::key_stream(tag_key, id, k);
-        let tag = tag::product_drawn(tables, archive, start, len, vector);
-        archive[start + len + k] = tag;
-    }
+    let tables = Tables::new();
+    let (block, tags) = out.split_at_mut(z.n + z.m);
+    write_block(&tables, z, file, padding, &row.bytes[..z.m], block);
+    write_tags(&tables, tag_key, id, block, tags);
 }
 
 // The mark, the block and its tags.
@@ -129,26 +121,24 @@ fn fill_place(
     place: usize,
     file: &[u8],
     padding: &[u8],
-    tag_key: &[u8],
+    tag_key: Key,
     row: &[u8],
 )
-    requires { Passed (archive_answer archive.old (Calls.encode node place file.now padding.now tag_key.now row.now)) }
+    requires { Passed (archive_answer archive.old (Calls.encode node place file.now padding.now tag_key row.now)) }
     ensures { let s = archive.old in
         let file = file.entry.now in
         let padding = padding.entry.now in
-        let tag_key = tag_key.now in
         let row = row.entry.now in
         archive.new ≡ effect_for (sizes_of s) (id_of s) s (Calls.encode node place file padding tag_key row) }
 {
-    let tables = field::tables();
     let z = sizes_in(archive);
     let k = node * z.places + place;
-    let start = record_start(z, k);
-    let kept = linear::row_from(row, 0, z.m);
     let id = id_in(archive);
+    let kept = linear::row_from(row);
     set_marks(archive, k, 1, true);
-    write_block(&tables, z, file, padding, kept, archive, start);
-    write_tags(&tables, tag_key, &id, z.tags, archive, start, z.n + z.m);
+    let start = record_start(z, k);
+    let record = &mut archive[start..start + record_length(z)];
+    write_record(z, file, padding, kept, tag_key, id, record);
 }
 
 // Fills a place of a node (the scheme: box) with the source blocks combined by a row, and the tags of that block.
@@ -160,7 +150,7 @@ pub fn encode(
     padding: &[u8],
     tag_key: &[u8],
     row: &[u8],
-) -> Outcome
+) -> Result<(), Refusal>
     ensures answer { let archive = archive.entry.now in
         let file = file.entry.now in
         let padding = padding.entry.now in
@@ -173,9 +163,8 @@ pub fn encode(
         let row = row.entry.now in
         archive.new ≡ archive_after archive.old (Calls.encode node place file padding tag_key row) }
 {
-    let answer = encode_check(archive, node, place, file, padding, tag_key, row);
-    if let Outcome::Done = answer {
-        fill_place(archive, node, place, file, padding, tag_key, row);
-    }
-    answer
+    encode_check(archive, node, place, file, padding, tag_key, row)?;
+    let tag_key = Key::try_from(tag_key).unwrap();
+    fill_place(archive, node, place, file, padding, tag_key, row);
+    Ok(())
 }

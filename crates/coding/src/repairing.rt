@@ -4,14 +4,13 @@ ghost use Rattle.lists.specs.Lists.{at, any_below, grid};
 ghost use Rattle.answer.specs.Refusals.{Passed};
 ghost use Rattle.sizes.specs.Sizes.{sizes_outside};
 ghost use Rattle.vector.specs.Vectors.{mixed};
-ghost use Rattle.field.specs.PrivateTables.{FieldTables};
 ghost use Rattle.sizes.specs.Lengths.{record_length, archive_length, record_start, header_length};
 ghost use Rattle.archive.specs.Layout.{sizes_of, id_of, filled_in, bad_archive};
 ghost use Rattle.archive.specs.Calls as Calls;
 ghost use Rattle.archive.specs.Calls.{archive_answer, effect_for, archive_after, scratch_after};
 ghost use Rattle.archive.specs.Repair.{scratch_made};
 
-use answer::{Outcome, Refusal};
+use answer::Refusal;
 use archive::{any_place, bad_archive, set_marks, sizes_in};
 use field::Tables;
 use sizes::{Sizes, record_length, record_start};
@@ -20,12 +19,16 @@ use sizes::{Sizes, record_length, record_start};
 pub fn any_missing(helpers: &[u8], nodes: usize) -> bool
     ensures { result ≡ any_below (length helpers.now) (λ i. leb nodes (at helpers.now i)) }
 {
-    for i in 0..helpers.len() {
-        if nodes <= lists::widen(helpers[i]) {
-            return true;
-        }
-    }
-    false
+    helpers.iter().any(|h| nodes <= usize::from(*h))
+}
+
+// Whether a place of this helper is empty.
+fn any_empty(archive: &[u8], z: Sizes, helper: u8) -> bool
+    requires { (sizes_outside z ≡ false) × (helper < z.nodes) × (header_length ≤ length archive.now) }
+    ensures { let archive = archive.entry.now in
+        result ≡ any_below z.places (λ l. not (filled_in z archive helper l)) }
+{
+    any_place(archive, z, usize::from(helper), false)
 }
 
 // Whether a place of a helper is empty.
@@ -37,12 +40,7 @@ pub fn any_helper_empty(archive: &[u8], z: Sizes, helpers: &[u8]) -> bool
         let archive = archive.entry.now in
         result ≡ any_below (length helpers) (λ i. any_below z.places (λ l. not (filled_in z archive (at helpers i) l))) }
 {
-    for i in 0..helpers.len() {
-        if any_place(archive, z, lists::widen(helpers[i]), false) {
-            return true;
-        }
-    }
-    false
+    helpers.iter().any(|h| any_empty(archive, z, *h))
 }
 
 // The first refusal of Repair.
@@ -54,7 +52,7 @@ fn repair_check(
     gammas: &[u8],
     thetas: &[u8],
     scratch: &[u8],
-) -> Outcome
+) -> Result<(), Refusal>
     ensures { let archive = archive.entry.now in
         let helpers = helpers.entry.now in
         let gammas = gammas.entry.now in
@@ -63,30 +61,30 @@ fn repair_check(
         result ≡ archive_answer archive (Calls.repair target helpers q gammas thetas (length scratch)) }
 {
     if bad_archive(archive) {
-        return Outcome::Refused(Refusal::BadArchive);
+        return Err(Refusal::BadArchive);
     }
     let z = sizes_in(archive);
     let p = helpers.len();
     if answer::outside(1, sizes::HELPERS_MOST, p) | answer::outside(1, sizes::SENT_MOST, q) {
-        return Outcome::Refused(Refusal::Size);
+        return Err(Refusal::Size);
     }
     let count = p * q * z.places;
     if (gammas.len() != count)
         | (thetas.len() != count)
         | (scratch.len() != p * q * record_length(z))
     {
-        return Outcome::Refused(Refusal::Length);
+        return Err(Refusal::Length);
     }
     if (z.nodes <= target) | any_missing(helpers, z.nodes) {
-        return Outcome::Refused(Refusal::NoSuchPlace);
+        return Err(Refusal::NoSuchPlace);
     }
     if any_place(archive, z, target, true) {
-        return Outcome::Refused(Refusal::PlaceFilled);
+        return Err(Refusal::PlaceFilled);
     }
     if any_helper_empty(archive, z, helpers) {
-        return Outcome::Refused(Refusal::PlaceEmpty);
+        return Err(Refusal::PlaceEmpty);
     }
-    Outcome::Done
+    Ok(())
 }
 
 // The repair blocks with tags, helper by helper.
@@ -98,8 +96,7 @@ fn repair_blocks(
     gammas: &[u8],
     scratch: &mut [u8],
 )
-    requires { FieldTables tables.now
-        × (bad_archive archive.now ≡ false)
+    requires { (bad_archive archive.now ≡ false)
         × (1 ≤ q)
         × (q ≤ 8)
         × (length helpers.now ≤ 5)
@@ -114,60 +111,18 @@ fn repair_blocks(
     let z = sizes_in(archive);
     let places = z.places;
     let len = record_length(z);
+    // by number: of a slice written through `chunks_exact_mut` a proof knows the length alone
     for t in 0..helpers.len() * q {
-        let first = record_start(z, lists::widen(helpers[t / q]) * places);
-        lists::zero(scratch, t * len, len);
-        vector::combine(
-            tables,
-            places,
-            gammas,
-            t * places,
-            1,
-            archive,
-            first,
-            scratch,
-            t * len,
-            len,
-        );
+        let first = record_start(z, usize::from(helpers[t / q]) * places);
+        let records = &archive[first..first + places * len];
+        let coefficients = &gammas[t * places..(t + 1) * places];
+        let block = &mut scratch[t * len..(t + 1) * len];
+        block.fill(0);
+        vector::combine(tables, places, coefficients, 1, records, block);
     }
 }
 
-// The target's records: all repair blocks combined by the thetas of each place.
-fn target_records(
-    tables: &Tables,
-    z: Sizes,
-    scratch: &[u8],
-    count: usize,
-    thetas: &[u8],
-    archive: &mut [u8],
-    target: usize,
-)
-    requires { FieldTables tables.now
-        × (sizes_outside z ≡ false)
-        × (count ≤ 40)
-        × (target < z.nodes)
-        × (length scratch.now ≡ count * record_length z)
-        × (length thetas.now ≡ count * z.places)
-        × (length archive.old ≡ archive_length z) }
-    ensures { let thetas = thetas.entry.now in
-        let scratch = scratch.entry.now in
-        let theta : ℕ → ℕ → ℕ = λ k t. at thetas (t * z.places + k) in
-        let block : ℕ → ℕ → ℕ = λ t e. at scratch (t * record_length z + e) in
-        let start = record_start z (target * z.places) in
-        archive.new ≡ grid z.places (record_length z) start (λ k. mixed count (theta k) block) archive.old }
-{
-    let places = z.places;
-    let len = record_length(z);
-    for k in 0..places {
-        let start = record_start(z, target * places + k);
-        lists::zero(archive, start, len);
-        vector::combine(
-            tables, count, thetas, k, places, scratch, 0, archive, start, len,
-        );
-    }
-}
-
-// The repair blocks, and then the target's marks and records.
+// The repair blocks, and then the target's marks and records: a record is all repair blocks combined by the thetas of its place.
 fn fill_target(
     archive: &mut [u8],
     target: usize,
@@ -190,19 +145,19 @@ fn fill_target(
         let scratch = scratch.entry.now in
         archive.new ≡ effect_for (sizes_of s) (id_of s) s (Calls.repair target helpers q gammas thetas (length scratch)) }
 {
-    let tables = field::tables();
+    let tables = Tables::new();
     let z = sizes_in(archive);
+    let count = helpers.len() * q;
     repair_blocks(&tables, archive, helpers, q, gammas, scratch);
     set_marks(archive, target * z.places, z.places, true);
-    target_records(
-        &tables,
-        z,
-        scratch,
-        helpers.len() * q,
-        thetas,
-        archive,
-        target,
-    );
+    let len = record_length(z);
+    // by number, for the same reason as in `repair_blocks`
+    for k in 0..z.places {
+        let start = record_start(z, target * z.places + k);
+        let record = &mut archive[start..start + len];
+        record.fill(0);
+        vector::combine(&tables, count, &thetas[k..], z.places, scratch, record);
+    }
 }
 
 // Fills the places of a node (the scheme: box) from its helpers' records; scratch then holds the repair blocks.
@@ -214,7 +169,7 @@ pub fn repair(
     gammas: &[u8],
     thetas: &[u8],
     scratch: &mut [u8],
-) -> Outcome
+) -> Result<(), Refusal>
     ensures answer { let archive = archive.entry.now in
         let helpers = helpers.entry.now in
         let gammas = gammas.entry.now in
@@ -233,9 +188,7 @@ pub fn repair(
         let thetas = thetas.entry.now in
         scratch.new ≡ scratch_after archive target helpers q gammas thetas scratch.old }
 {
-    let answer = repair_check(archive, target, helpers, q, gammas, thetas, scratch);
-    if let Outcome::Done = answer {
-        fill_target(archive, target, helpers, q, gammas, thetas, scratch);
-    }
-    answer
+    repair_check(archive, target, helpers, q, gammas, thetas, scratch)?;
+    fill_target(archive, target, helpers, q, gammas, thetas, scratch);
+    Ok(())
 }

@@ -1,8 +1,7 @@
 // The power and logarithm tables, as constants.
-ghost use Rattle.field.specs.PrivateTables.{Laid, FieldTables};
 
 // The powers of 03, from the power 0 on.
-const POWERS: [u8; 255] = [
+pub(crate) const POWERS: [u8; 255] = [
     0x01, 0x03, 0x05, 0x0f, 0x11, 0x33, 0x55, 0xff, 0x1a, 0x2e, 0x72, 0x96, 0xa1, 0xf8, 0x13, 0x35,
     0x5f, 0xe1, 0x38, 0x48, 0xd8, 0x73, 0x95, 0xa4, 0xf7, 0x02, 0x06, 0x0a, 0x1e, 0x22, 0x66, 0xaa,
     0xe5, 0x34, 0x5c, 0xe4, 0x37, 0x59, 0xeb, 0x26, 0x6a, 0xbe, 0xd9, 0x70, 0x90, 0xab, 0xe6, 0x31,
@@ -22,7 +21,7 @@ const POWERS: [u8; 255] = [
 ];
 
 // The logarithm to the base 03 of each byte but 00; the entry of 00 is some exponent, and its power is multiplied by zero.
-const LOGS: [u8; 256] = [
+pub(crate) const LOGS: [u8; 256] = [
     0, 0, 25, 1, 50, 2, 26, 198, 75, 199, 27, 104, 51, 238, 223, 3, 100, 4, 224, 14, 52, 141, 129,
     239, 76, 113, 8, 200, 248, 105, 28, 193, 125, 194, 29, 181, 249, 185, 39, 106, 77, 228, 166,
     114, 154, 201, 9, 120, 101, 47, 138, 5, 33, 15, 225, 36, 18, 240, 130, 69, 53, 147, 218, 142,
@@ -37,30 +36,3 @@ const LOGS: [u8; 256] = [
     217, 35, 32, 46, 137, 180, 124, 184, 38, 119, 153, 227, 165, 103, 74, 237, 222, 197, 49, 254,
     24, 13, 99, 140, 128, 192, 247, 112, 7,
 ];
-
-// Where the logarithms begin in the tables that are lent.
-pub const LOGS_START: usize = 510;
-
-// The powers twice in a row, so that the sum of two logarithms is an index, then the logarithms.
-pub type Tables = [u8; 766];
-
-// The two constants laid out in one array.
-fn laid(powers: [u8; 255], logs: [u8; 256]) -> Tables
-    ensures { Laid powers logs result }
-{
-    let mut out = [0u8; 766];
-    for i in 0..255 {
-        out[i] = powers[i];
-        out[i + 255] = powers[i];
-        out[i + LOGS_START] = logs[i];
-    }
-    out[765] = logs[255];
-    out
-}
-
-// The tables by value. A loop copies them to a local once before it begins: a constant table is rebuilt on the stack at each use.
-pub fn tables() -> Tables
-    ensures { FieldTables result }
-{
-    laid(POWERS, LOGS)
-}

@@ -1,5 +1,5 @@
 -- What Gather's answer tells, and what it writes. Assumes nothing.
-use Prim.Native.Nat.{ℕ, ◌+◌, ◌*◌, ◌<◌, ◌≤◌}
+use Prim.Native.Nat.{ℕ, ◌+◌, ◌-◌, ◌*◌, ◌<◌, ◌≤◌}
 use mathlib.Core.Path.{◌≡◌, refl, sym, ap, ◌∙◌}
 use mathlib.Core.Bool.{Bool, false}
 use mathlib.Core.List.{List, [], ◌∷◌}
@@ -11,7 +11,7 @@ use Rattle.lists.specs.Lists.{at, put, over, any_of}
 use Rattle.lists.proofs.PutLaws.{grid_same, grid_put}
 use Rattle.lists.proofs.OverLaws.{over_none, over_more, over_same}
 use Rattle.lists.proofs.AnyLaws.{none_at, any_skip, any_last}
-use Rattle.answer.specs.declared.Outcome.{Outcome}
+use Rattle.answer.specs.Answer.{Outcome}
 use Rattle.answer.specs.Refusals.{Passed}
 use Rattle.answer.proofs.RefusalLaws.{passed, accepted}
 use Rattle.sizes.specs.declared.Sizes.{Sizes}
@@ -48,15 +48,21 @@ module _ (archive share : List ℕ) (k : ℕ) where
   copied_none long low =
       marks_own archive long low ∙ marks_same (mark_at archive) _ archive (λ i h. sym (over_none k (λ j. mark_at share (k + j)) (mark_at archive) i))
 
-  pub copied_more : 18 ≤ length archive → (j : ℕ) {t u : List ℕ} {v : Bool} → t ≡ copied j → v ≡ mark_at share (k + j)
+  copied_step : 18 ≤ length archive → (j : ℕ) {t u : List ℕ} {v : Bool} → t ≡ copied j → v ≡ mark_at share (k + j)
       → u ≡ with_marks (over (k + j) 1 (λ i. v) (mark_at t)) t → u ≡ copied (j + 1)
-  copied_more long j e w made =
+  copied_step long j e w made =
       made
       ∙ rw (e, w)
       (marks_again archive long _ _
       ∙ marks_same _ _ archive (λ i h.
       over_same (k + j) 1 _ _ (mark_at (copied j)) _ i (λ l b. refl) (mark_written archive long _ i h)
       ∙ over_more k j (λ l. mark_at share (k + l)) (mark_at archive) i))
+
+  pub copied_more : 18 ≤ length archive → {place : ℕ} → k ≤ place → {t u : List ℕ} {v : Bool} → t ≡ copied (place - k) → v ≡ mark_at share place
+      → u ≡ with_marks (over place 1 (λ i. v) (mark_at t)) t → u ≡ copied (place - k + 1)
+  copied_more long {place} past {t} {u} {v} e w made =
+      let q : k + (place - k) ≡ place = omega arith in
+      copied_step long (place - k) {t = t} {u = u} {v = v} e (rw q w) (rw q made)
 
 -- ---- the node's marks, then its records
 

@@ -8,10 +8,10 @@ use native.Mathlib.Omega.{arith}
 use lib.Dec.{leb}
 use lib.ListN.{length}
 use borrow.Author.Tests.{leb-false}
-use Rattle.lists.specs.Lists.{at, put, flat, grid}
-use Rattle.lists.proofs.PutLaws.{put_same, grid_more, grid_all}
-use Rattle.answer.specs.declared.Outcome.{Outcome}
-use Rattle.answer.specs.declared.Outcome.TheVariants.{Done}
+use Rattle.lists.specs.Lists.{at, tab, put, flat, grid}
+use Rattle.lists.proofs.TabLaws.{tab_same}
+use Rattle.lists.proofs.PutLaws.{grid_more, grid_all}
+use Rattle.answer.specs.Answer.{Outcome, done}
 use Rattle.answer.specs.declared.Refusal.TheVariants.{Length, NoSuchPlace}
 use Rattle.answer.specs.Refusals.{Passed, refuse, differs}
 use Rattle.answer.proofs.RefusalLaws.{refused, passed, accepted, after_done, after_refused, same}
@@ -41,7 +41,7 @@ rows_low z R = mul-le-mul {n₂ = places_most} {m₂ = m_most} R.places_high R.m
 
 -- by the sizes that were read
 abbrev rows_for : (z : Sizes) (node : ℕ) (rows : List ℕ) → Outcome
-rows_for z node rows = refuse (differs (length rows) (z.places * z.m)) Length (refuse (leb z.nodes node) NoSuchPlace Done)
+rows_for z node rows = refuse (differs (length rows) (z.places * z.m)) Length (refuse (leb z.nodes node) NoSuchPlace done)
 
 pub rows_answered : (s : List ℕ) {z : Sizes} → z ≡ sizes_of s → bad_archive s ≡ false → (node : ℕ) (rows : List ℕ) {o : Outcome}
     → o ≡ rows_for z node rows → o ≡ rows_answer s node rows
@@ -62,22 +62,20 @@ module _ (s : List ℕ) (node place : ℕ) {z : Sizes} (read : z ≡ sizes_of s)
         omega (arith, record_fits z (place_number z node place) low, read_length s read good)
 
   -- what the code writes for it
-  row_is : (f : ℕ → ℕ) (from : ℕ) (rows : List ℕ) → ((i : ℕ) → f i ≡ stored_row z s node place i)
-      → put z.m from f rows ≡ put (sizes_of s).m from (stored_row (sizes_of s) s node place) rows
-  row_is f from rows h =
-      put_same z.m from f (stored_row z s node place) rows (λ i l. h i)
-      ∙ ap (λ (x : Sizes). put x.m from (stored_row x s node place) rows) read
+  row_is : (f : ℕ → ℕ) → ((i : ℕ) → f i ≡ stored_row z s node place i) → tab z.m f ≡ tab (sizes_of s).m (stored_row (sizes_of s) s node place)
+  row_is f h =
+      tab_same z.m f (stored_row z s node place) (λ i l. h i) ∙ ap (λ (x : Sizes). tab x.m (stored_row x s node place)) read
 
-  pub row_stored : (from : ℕ) (rows : List ℕ) {t : List ℕ} {start : ℕ} → mark_at s (place_number z node place) ≡ true
-      → start ≡ record_start z (place_number z node place) → t ≡ put z.m from (λ i. at s (start + z.n + i)) rows
-      → t ≡ put (sizes_of s).m from (stored_row (sizes_of s) s node place) rows
+  pub row_stored : {t : List ℕ} {start : ℕ} → mark_at s (place_number z node place) ≡ true
+      → start ≡ record_start z (place_number z node place) → t ≡ tab z.m (λ i. at s (start + z.n + i))
+      → t ≡ tab (sizes_of s).m (stored_row (sizes_of s) s node place)
   unfolding stored_row byte_in
-  row_stored from rows marked q e = e ∙ row_is _ from rows (λ i. rw (marked, q) (ap (at s) (omega arith)))
+  row_stored marked q e = e ∙ row_is _ (λ i. rw (marked, q) (ap (at s) (omega arith)))
 
-  pub row_empty : (from : ℕ) (rows : List ℕ) {t : List ℕ} → mark_at s (place_number z node place) ≡ false → t ≡ put z.m from (λ i. 0) rows
-      → t ≡ put (sizes_of s).m from (stored_row (sizes_of s) s node place) rows
+  pub row_empty : {t : List ℕ} → mark_at s (place_number z node place) ≡ false → t ≡ tab z.m (λ i. 0)
+      → t ≡ tab (sizes_of s).m (stored_row (sizes_of s) s node place)
   unfolding stored_row
-  row_empty from rows marked e = e ∙ row_is _ from rows (λ i. rw marked)
+  row_empty marked e = e ∙ row_is _ (λ i. rw marked)
 
 -- ---- the rows of all places, where nothing is refused
 

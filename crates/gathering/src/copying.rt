@@ -6,7 +6,7 @@ ghost use Rattle.sizes.specs.Lengths.{marks_start, header_length, mark_count};
 ghost use Rattle.archive.specs.Layout.{sizes_of, mark_at, with_marks};
 ghost use Rattle.archive.specs.Gather.{other_archive, gather_answer, gathered, gather_after};
 
-use answer::{Outcome, Refusal};
+use answer::Refusal;
 use archive::{bad_archive, sizes_in};
 
 // Whether a byte ahead of the marks differs: layout, sizes, number of tags or id.
@@ -14,35 +14,30 @@ fn other_archive(archive: &[u8], share: &[u8]) -> bool
     requires { (marks_start ≤ length archive.now) × (marks_start ≤ length share.now) }
     ensures { result ≡ other_archive archive.now share.now }
 {
-    for i in 0..sizes::MARKS_START {
-        if archive[i] != share[i] {
-            return true;
-        }
-    }
-    false
+    archive[..sizes::MARKS_START] != share[..sizes::MARKS_START]
 }
 
 // The first refusal of Gather.
-fn gather_check(archive: &[u8], share: &[u8], node: usize) -> Outcome
+fn gather_check(archive: &[u8], share: &[u8], node: usize) -> Result<(), Refusal>
     ensures { result ≡ gather_answer archive.now share.now node }
 {
     if bad_archive(archive) {
-        return Outcome::Refused(Refusal::BadArchive);
+        return Err(Refusal::BadArchive);
     }
     if bad_archive(share) {
-        return Outcome::Refused(Refusal::BadArchive);
+        return Err(Refusal::BadArchive);
     }
     if other_archive(archive, share) {
-        return Outcome::Refused(Refusal::BadArchive);
+        return Err(Refusal::BadArchive);
     }
     let z = sizes_in(archive);
     if z.nodes <= node {
-        return Outcome::Refused(Refusal::NoSuchPlace);
+        return Err(Refusal::NoSuchPlace);
     }
     if archive::any_place(archive, z, node, true) {
-        return Outcome::Refused(Refusal::PlaceFilled);
+        return Err(Refusal::PlaceFilled);
     }
-    Outcome::Done
+    Ok(())
 }
 
 // The marks of the `count` places from number k on become the share's.
@@ -52,8 +47,8 @@ fn copy_marks(archive: &mut [u8], share: &[u8], k: usize, count: usize)
         archive.new
         ≡ with_marks (over k count (λ j. mark_at share (k + j)) (mark_at archive.old)) archive.old }
 {
-    for j in 0..count {
-        archive::set_marks(archive, k + j, 1, archive::marked(share, k + j));
+    for place in k..k + count {
+        archive::set_marks(archive, place, 1, archive::marked(share, place));
     }
 }
 
@@ -67,17 +62,15 @@ fn copy_node(archive: &mut [u8], share: &[u8], node: usize)
     copy_marks(archive, share, k, z.places);
     let start = sizes::record_start(z, k);
     let len = z.places * sizes::record_length(z);
-    lists::store(share, start, archive, start, len);
+    archive[start..start + len].copy_from_slice(&share[start..start + len]);
 }
 
 // Puts a node of a share into an archive where the node is empty.
-pub fn gather(archive: &mut [u8], share: &[u8], node: usize) -> Outcome
+pub fn gather(archive: &mut [u8], share: &[u8], node: usize) -> Result<(), Refusal>
     ensures answer { result ≡ gather_answer archive.old share.now node }
     ensures output { archive.new ≡ gather_after archive.old share.now node }
 {
-    let answer = gather_check(archive, share, node);
-    if let Outcome::Done = answer {
-        copy_node(archive, share, node);
-    }
-    answer
+    gather_check(archive, share, node)?;
+    copy_node(archive, share, node);
+    Ok(())
 }

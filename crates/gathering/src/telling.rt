@@ -1,11 +1,11 @@
 // Sizes and Rows: what an archive tells of itself.
 ghost use Rattle.std.specs.Prelude.{◌≡◌, false, ◌+◌, ◌*◌, ◌<◌, ◌≤◌, length};
-ghost use Rattle.lists.specs.Lists.{flat, put};
+ghost use Rattle.lists.specs.Lists.{tab, flat};
 ghost use Rattle.answer.specs.Refusals.{Passed};
 ghost use Rattle.archive.specs.Layout.{layout_of, sizes_of, bad_archive};
 ghost use Rattle.archive.specs.Told.{sizes_answer, size_after, stored_row, rows_answer, rows_out};
 
-use answer::{Outcome, Refusal};
+use answer::Refusal;
 use archive::{bad_archive, sizes_in};
 
 // The layout of an archive, n, m, places a node, nodes and tags (the scheme: M places a box, N boxes, L).
@@ -17,7 +17,7 @@ pub fn sizes(
     places: &mut usize,
     nodes: &mut usize,
     tags: &mut usize,
-) -> Outcome
+) -> Result<(), Refusal>
     ensures answer { result ≡ sizes_answer archive.now }
     ensures layout { let s = archive.now in layout.new ≡ size_after s (layout_of s) layout.old }
     ensures n { let s = archive.now in n.new ≡ size_after s (sizes_of s).n n.old }
@@ -27,7 +27,7 @@ pub fn sizes(
     ensures tags { let s = archive.now in tags.new ≡ size_after s (sizes_of s).tags tags.old }
 {
     if bad_archive(archive) {
-        return Outcome::Refused(Refusal::BadArchive);
+        return Err(Refusal::BadArchive);
     }
     let z = sizes_in(archive);
     *layout = bits::read_field(archive, 0, 4);
@@ -36,42 +36,43 @@ pub fn sizes(
     *places = z.places;
     *nodes = z.nodes;
     *tags = z.tags;
-    Outcome::Done
+    Ok(())
 }
 
 // The first refusal of Rows.
-fn rows_check(archive: &[u8], node: usize, rows: &[u8]) -> Outcome
+fn rows_check(archive: &[u8], node: usize, rows: &[u8]) -> Result<(), Refusal>
     ensures { result ≡ rows_answer archive.now node rows.now }
 {
     if bad_archive(archive) {
-        return Outcome::Refused(Refusal::BadArchive);
+        return Err(Refusal::BadArchive);
     }
     let z = sizes_in(archive);
     if rows.len() != z.places * z.m {
-        return Outcome::Refused(Refusal::Length);
+        return Err(Refusal::Length);
     }
     if z.nodes <= node {
-        return Outcome::Refused(Refusal::NoSuchPlace);
+        return Err(Refusal::NoSuchPlace);
     }
-    Outcome::Done
+    Ok(())
 }
 
-// The row of a node's place, or zeros, into m bytes from `from` on.
-fn write_row(archive: &[u8], node: usize, place: usize, rows: &mut [u8], from: usize)
+// The row of a node's place, or zeros.
+fn write_row(archive: &[u8], node: usize, place: usize, row: &mut [u8])
     requires { (bad_archive archive.now ≡ false)
         × (node < (sizes_of archive.now).nodes)
         × (place < (sizes_of archive.now).places)
-        × (from + (sizes_of archive.now).m ≤ length rows.old) }
+        × (length row.old ≡ (sizes_of archive.now).m) }
     ensures { let archive = archive.entry.now in
-        rows.new ≡ put (sizes_of archive).m from (stored_row (sizes_of archive) archive node place) rows.old }
+        row.new ≡ tab (sizes_of archive).m (stored_row (sizes_of archive) archive node place) }
 {
     let z = sizes_in(archive);
     let k = node * z.places + place;
-    if archive::marked(archive, k) {
-        lists::store(archive, sizes::record_start(z, k) + z.n, rows, from, z.m);
+    if !archive::marked(archive, k) {
+        row.fill(0);
         return;
     }
-    lists::zero(rows, from, z.m);
+    let start = sizes::record_start(z, k) + z.n;
+    row.copy_from_slice(&archive[start..start + z.m]);
 }
 
 // The rows of a node's places.
@@ -81,19 +82,19 @@ fn write_rows(archive: &[u8], node: usize, rows: &mut [u8])
         rows.new ≡ flat (sizes_of archive).places (sizes_of archive).m (stored_row (sizes_of archive) archive node) }
 {
     let z = sizes_in(archive);
+    // By place: after chunks_exact_mut no fact of what was written is left.
     for place in 0..z.places {
-        write_row(archive, node, place, rows, place * z.m);
+        let from = place * z.m;
+        write_row(archive, node, place, &mut rows[from..from + z.m]);
     }
 }
 
 // The rows that a node holds, place by place, zeros for places that are not marked.
-pub fn rows(archive: &[u8], node: usize, rows: &mut [u8]) -> Outcome
+pub fn rows(archive: &[u8], node: usize, rows: &mut [u8]) -> Result<(), Refusal>
     ensures answer { result ≡ rows_answer archive.now node rows.old }
     ensures output { rows.new ≡ rows_out archive.now node rows.old }
 {
-    let answer = rows_check(archive, node, rows);
-    if let Outcome::Done = answer {
-        write_rows(archive, node, rows);
-    }
-    answer
+    rows_check(archive, node, rows)?;
+    write_rows(archive, node, rows);
+    Ok(())
 }

@@ -1,10 +1,13 @@
 -- Laws of the block function. Assumes nothing.
-use Rattle.std.proofs.Common.{◌≡◌, ℕ, ◌+◌, ◌*◌, ◌/◌, ◌%◌, ◌<◌, T, ltb, List, [], length, get_or, sym, refl, ap, ◌∙◌, add-one, arith, ltb→lt}
+use Rattle.std.proofs.Common.{◌≡◌, ℕ, zero, suc, div-one, w32, ◌+◌, ◌*◌, ◌/◌, ◌%◌, ◌<◌, T, ltb, List, [], length, get_or, sym, refl, ap, ◌∙◌, add-one, arith, ltb→lt}
 use lib.Bits.{bit_xor}
+use borrow.Rule.Slice.PartMut.{put_mid}
+use Rattle.std.specs.Int.{to_le_bytes}
 use Rattle.lists.specs.Lists.{at, put}
 use Rattle.lists.proofs.AllLaws.{all, all_at}
 use Rattle.lists.proofs.TabLaws.{length_tab, tab_at, elements}
-use Rattle.lists.proofs.PutLaws.{put_all}
+use Rattle.lists.proofs.PutLaws.{length_put, put_block, put_all}
+use Rattle.lists.proofs.ChainLaws.{put_part}
 use Rattle.keystream.specs.declared.chacha.Four.{Four}
 use Rattle.keystream.specs.ChaCha.{add32, rotl, byte_of, half, quadruples, quarter_by, quarters_to, rounds, block_words, serialised, start, block_of}
 
@@ -38,21 +41,41 @@ pub round_more : (i : ℕ) (s : List ℕ) {t r : List ℕ} → t ≡ rounds i s 
 unfolding rounds
 round_more i s p q = rw add-one (cc)
 
-serialised_length : (w : List ℕ) → length (serialised w) ≡ 64
+-- the library's four bytes of a word
+word_bytes : (x : ℕ) {b : List ℕ} → b ≡ to_le_bytes w32 x → (i : ℕ) → i < 4 → at b i ≡ byte_of x i
+word_bytes x e zero h = rw e (simp div-one)
+word_bytes x e (suc zero) h = rw e refl
+word_bytes x e (suc (suc zero)) h = rw e refl
+word_bytes x e (suc (suc (suc zero))) h = rw e refl
+word_bytes x e (suc (suc (suc (suc i)))) h = absurd (omega arith)
+
+pub serialised_length : (w : List ℕ) → length (serialised w) ≡ 64
 unfolding serialised
 serialised_length w = length_tab 64 _
 
 -- byte i of word k of the serialised words
-pub serialised_at : (w : List ℕ) (k i : ℕ) → k < 16 → i < 4 → byte_of (at w k) i ≡ at (serialised w) (4 * k + i)
+serialised_at : (w : List ℕ) (k i : ℕ) → k < 16 → i < 4 → byte_of (at w k) i ≡ at (serialised w) (4 * k + i)
 unfolding serialised
 serialised_at w k i h l =
     let q : (4 * k + i) / 4 ≡ k = omega arith in
     let r : (4 * k + i) % 4 ≡ i = omega arith in
     sym (tab_at 64 _ (4 * k + i) (omega arith) ∙ rw (q, r) refl)
 
--- 64 bytes that a block's words were stored in are the block
-pub block_stored : (key : List ℕ) (counter : ℕ) (nonce out : List ℕ) {w b r : List ℕ} → length out ≡ 64 → w ≡ start key counter nonce → b ≡ block_words w
-    → r ≡ put 64 0 (at (serialised b)) out → r ≡ block_of key counter nonce
+-- the bytes of one word more
+pub word_more : (w d : List ℕ) (k : ℕ) {s b : List ℕ} {place n : ℕ} → k < 16 → length d ≡ 64 → s ≡ put (4 * k) 0 (at (serialised w)) d → place ≡ 4 * k → n ≡ 4
+    → b ≡ to_le_bytes w32 (at w k) → put_mid place n s b ≡ put (4 * (k + 1)) 0 (at (serialised w)) d
+word_more w d k {s} {b} {place} {n} h l e p q g =
+    let size : length b ≡ 4 = rw g refl in
+    let long : length s ≡ 64 = ap length e ∙ length_put (4 * k) 0 (at (serialised w)) d ∙ l in
+    let at_end : place ≡ 0 + 4 * k = omega arith in
+    put_block 4 k 0 (at (serialised w)) (byte_of (at w k)) d e at_end (put_part place 4 n (byte_of (at w k)) s b q size (omega arith) (word_bytes (at w k) g))
+    (λ i r. serialised_at w k i h r)
+
+pub words_stored : (w d : List ℕ) {s : List ℕ} → length d ≡ 64 → s ≡ put (4 * 16) 0 (at (serialised w)) d → s ≡ serialised w
+words_stored w d l e = e ∙ put_all 64 (at (serialised w)) d l ∙ elements 64 (serialised w) (serialised_length w)
+
+-- the block
+pub block_made : (key : List ℕ) (counter : ℕ) (nonce : List ℕ) {w b r : List ℕ} → w ≡ start key counter nonce → b ≡ block_words w → r ≡ serialised b
+    → r ≡ block_of key counter nonce
 unfolding block_of
-block_stored key counter nonce out l e h s =
-    s ∙ put_all 64 (at (serialised _)) out l ∙ elements 64 (serialised _) (serialised_length _) ∙ ap serialised (h ∙ ap block_words e)
+block_made key counter nonce e h s = s ∙ ap serialised (h ∙ ap block_words e)

@@ -28,7 +28,7 @@ high_byte a b r h =
     let d : (a + 4294967296 * b) / 2 ^ 32 ≡ b = omega arith in
     rw (← lost (a + 4294967296 * b) 4 r, d)
 
-word_low : (w : List ℕ) (i : ℕ) → i < 16 → at (block_words w) i < 4294967296
+pub word_low : (w : List ℕ) (i : ℕ) → i < 16 → at (block_words w) i < 4294967296
 unfolding block_words
 word_low w i h = rw (tab_at _ _ i h) (mod-lt _ (lit< tt))
 

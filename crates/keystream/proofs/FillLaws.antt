@@ -1,7 +1,10 @@
 -- A stream written block by block: the state of block j, and the bytes of the blocks in a row. Assumes nothing.
-use Rattle.std.proofs.Common.{◌≡◌, ℕ, ◌+◌, ◌*◌, ◌/◌, ◌%◌, ◌^◌, List, length, set, refl, ap, ◌∙◌, arith, get_or-set_same, set-set}
+use Rattle.std.proofs.Common.{◌≡◌, ℕ, ◌+◌, ◌*◌, ◌/◌, ◌%◌, ◌^◌, ◌≤◌, List, length, set, refl, ap, ◌∙◌, arith, get_or-set_same, set-set}
+use borrow.Rule.Slice.PartMut.{put_mid}
 use Rattle.lists.specs.Lists.{at, put}
-use Rattle.lists.proofs.PutLaws.{put_block, put_same}
+use Rattle.lists.proofs.PutLaws.{length_put, put_block, put_same}
+use Rattle.lists.proofs.ChainLaws.{put_part}
+use Rattle.keystream.proofs.ChaChaLaws.{serialised_length}
 use Rattle.keystream.specs.ChaCha.{add32, block_words, serialised, start, block_of}
 use Rattle.keystream.specs.Draws.{byte_at}
 
@@ -24,11 +27,15 @@ state_more w j {v} {x} l e h =
     let r : add32 ((at w 12 + j) % 2 ^ 32) 1 ≡ (at w 12 + (j + 1)) % 2 ^ 32 = omega arith in
     rw (h, q, r, e) (set-set w 12 _ _)
 
-pub block_more : (w d : List ℕ) (j : ℕ) {v b s t : List ℕ} {place : ℕ} → v ≡ state_at w j → b ≡ block_words v → s ≡ put (64 * j) 0 (blocks_byte w) d → place ≡ 64 * j
-    → t ≡ put 64 place (at (serialised b)) s → t ≡ put (64 * (j + 1)) 0 (blocks_byte w) d
+pub block_more : (w d : List ℕ) (j : ℕ) {v b s t : List ℕ} {place n : ℕ} → 64 * (j + 1) ≤ length d → v ≡ state_at w j → b ≡ block_words v
+    → s ≡ put (64 * j) 0 (blocks_byte w) d → place ≡ 64 * j → n ≡ 64 → t ≡ serialised b → put_mid place n s t ≡ put (64 * (j + 1)) 0 (blocks_byte w) d
 unfolding blocks_byte
-block_more w d j e h g p k =
-    put_block 64 j 0 (blocks_byte w) _ d g (p ∙ omega arith) k (λ i l.
+block_more w d j {v} {b} {s} {t} {place} {n} r e h g p m k =
+    let size : length t ≡ 64 = rw (k, serialised_length) refl in
+    let long : length s ≡ length d = ap length g ∙ length_put (64 * j) 0 (blocks_byte w) d in
+    let at_end : place ≡ 0 + 64 * j = omega arith in
+    put_block 64 j 0 (blocks_byte w) (at (serialised b)) d g at_end (put_part place 64 n (at (serialised b)) s t m size (omega arith) (λ i l. ap (λ (x : List ℕ). at x i) k))
+    (λ i l.
     let q : (64 * j + i) / 64 ≡ j = omega arith in
     let r : (64 * j + i) % 64 ≡ i = omega arith in
     rw (q, r, h, e) refl)

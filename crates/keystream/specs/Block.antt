@@ -1,7 +1,6 @@
 -- The operation Block (SCHEME, Operations). Refuses 2.
 use Rattle.std.specs.Prelude.{ℕ, List, length}
-use Rattle.answer.specs.declared.Outcome.{Outcome}
-use Rattle.answer.specs.declared.Outcome.TheVariants.{Done}
+use Rattle.answer.specs.Answer.{Outcome, done}
 use Rattle.answer.specs.declared.Refusal.TheVariants.{Length}
 use Rattle.answer.specs.Refusals.{refuse, afterwards, differs}
 use Rattle.keystream.specs.ChaCha.{block_of}
@@ -12,7 +11,7 @@ block_answer key nonce out =
     refuse (differs (length key) key_length) Length
     (refuse (differs (length nonce) nonce_length) Length
     (refuse (differs (length out) stream_block_length) Length
-    Done))
+    done))
 
 unfoldable pub block_out : (key : List ℕ) (counter : ℕ) (nonce out : List ℕ) → List ℕ
 block_out key counter nonce out = afterwards (block_answer key nonce out) out (block_of key counter nonce)

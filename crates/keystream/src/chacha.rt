@@ -7,7 +7,7 @@ ghost use Rattle.keystream.specs.PrivateStream.{pairs_of};
 ghost use Rattle.keystream.specs.Draws.{byte_at};
 ghost use Rattle.keystream.specs.Block.{block_answer, block_out};
 
-use answer::{Outcome, Refusal};
+use answer::Refusal;
 
 // The key and the nonce of RFC 8439, by value.
 pub type Key = [u8; sizes::KEY_LENGTH];
@@ -27,7 +27,7 @@ const QUARTERS: [[usize; 4]; 8] = [
 ];
 
 // The four words of a quarter round.
-#[derive(Clone, Copy)]
+#[derive(Clone, Copy, PartialEq, Eq, Debug)]
 pub struct Four {
     pub a: u32,
     pub b: u32,
@@ -82,13 +82,14 @@ fn quarter_by(s: [u32; 16], q: [usize; 4]) -> [u32; 16]
 }
 
 // A quarter round for each quadruple of the table, which is lent: a constant named in the loop would be built anew at each turn.
+// A call's result goes to a name of its own first, here and in `ten_rounds`: laid straight in an array, the check does not cover it.
 fn double_round(s: [u32; 16], quarters: &[[usize; 4]; 8]) -> [u32; 16]
     requires { quarters.now ≡ quadruples }
     ensures { result ≡ quarters_to 8 s }
 {
     let mut t = s;
-    for i in 0..8 {
-        let u = quarter_by(t, quarters[i]);
+    for q in quarters {
+        let u = quarter_by(t, *q);
         t = u;
     }
     t
@@ -110,36 +111,23 @@ fn ten_rounds(s: [u32; 16]) -> [u32; 16]
 fn block_words(w: [u32; 16]) -> [u32; 16]
     ensures { result ≡ block_words w }
 {
-    let t = ten_rounds(w);
-    let mut o = [0u32; 16];
-    for i in 0..16 {
-        o[i] = std::num::wrapping_add_u32(t[i], w[i]);
+    let mut words = ten_rounds(w);
+    for (i, word) in words.iter_mut().enumerate() {
+        *word = word.wrapping_add(w[i]);
     }
-    o
-}
-
-fn wide32(x: u32) -> u64
-    ensures { (result ≡ x) × (result < 4294967296) }
-{
-    x as u64
+    words
 }
 
 // The block that the state w starts, as 8 numbers of 64 bits.
 pub fn block_pairs(w: [u32; 16]) -> [u64; 8]
     ensures { result ≡ pairs_of (block_words w) }
 {
-    let t = block_words(w);
-    let mut o = [0u64; 8];
-    for i in 0..8 {
-        o[i] = wide32(t[i * 2]) + 4294967296 * wide32(t[i * 2 + 1]);
+    let words = block_words(w);
+    let mut pairs = [0u64; 8];
+    for (i, pair) in pairs.iter_mut().enumerate() {
+        *pair = u64::from(words[i * 2]) + (u64::from(words[i * 2 + 1]) << 32);
     }
-    o
-}
-
-fn wide(x: u8) -> u32
-    ensures { (result ≡ x) × (result < 256) }
-{
-    x as u32
+    pairs
 }
 
 // The word whose lowest byte is byte `from`.
@@ -147,10 +135,7 @@ fn word_at(b: &[u8], from: usize) -> u32
     requires { from + 4 ≤ length b.now }
     ensures { result ≡ word_at b.now from }
 {
-    wide(b[from])
-        + 256 * wide(b[from + 1])
-        + 65536 * wide(b[from + 2])
-        + 16777216 * wide(b[from + 3])
+    u32::from_le_bytes([b[from], b[from + 1], b[from + 2], b[from + 3]])
 }
 
 // The state that a block starts from: constants, key, counter, nonce.
@@ -178,24 +163,13 @@ pub fn start_state(key: &[u8], counter: u32, nonce: &[u8]) -> [u32; 16]
     ]
 }
 
-// The four bytes of a word from `from` on, the lowest first: written out, so that the compiler makes one store of them.
-fn store_word(out: &mut [u8], from: usize, x: u32)
-    requires { from + 4 ≤ length out.old }
-    ensures { out.new ≡ put 4 from (byte_of x) out.old }
+// The 64 bytes of 16 words. By place, here and in `fill`: of a slice written through `chunks_exact_mut` a proof knows the length alone.
+fn spread(w: [u32; 16], out: &mut [u8])
+    requires { length out.old ≡ 64 }
+    ensures { out.new ≡ serialised w }
 {
-    out[from] = (x % 256) as u8;
-    out[from + 1] = (x / 256 % 256) as u8;
-    out[from + 2] = (x / 65536 % 256) as u8;
-    out[from + 3] = (x / 16777216 % 256) as u8;
-}
-
-// The 64 bytes of 16 words from `from` on.
-fn spread(w: [u32; 16], out: &mut [u8], from: usize)
-    requires { from + 64 ≤ length out.old }
-    ensures { out.new ≡ put 64 from (at (serialised w)) out.old }
-{
-    for k in 0..16 {
-        store_word(out, from + k * 4, w[k]);
+    for (k, word) in w.iter().enumerate() {
+        out[4 * k..4 * k + 4].copy_from_slice(&word.to_le_bytes());
     }
 }
 
@@ -206,27 +180,27 @@ pub fn fill(key: Key, nonce: Nonce, out: &mut [u8], count: usize)
 {
     let mut w = start_state(&key, 0, &nonce);
     for j in 0..count {
-        spread(block_words(w), out, j * 64);
+        spread(block_words(w), &mut out[64 * j..64 * j + 64]);
         w[12] = std::num::wrapping_add_u32(w[12], 1);
     }
 }
 
 // The block for a key of 32 bytes, a counter and a nonce of 12 bytes, into 64 bytes.
-pub fn block(key: &[u8], counter: u32, nonce: &[u8], out: &mut [u8]) -> Outcome
+pub fn block(key: &[u8], counter: u32, nonce: &[u8], out: &mut [u8]) -> Result<(), Refusal>
     ensures answer { result ≡ block_answer key.now nonce.now out.old }
     ensures output { let key = key.entry.now in
         let nonce = nonce.entry.now in
         out.new ≡ block_out key counter nonce out.old }
 {
     if key.len() != sizes::KEY_LENGTH {
-        return Outcome::Refused(Refusal::Length);
+        return Err(Refusal::Length);
     }
     if nonce.len() != sizes::NONCE_LENGTH {
-        return Outcome::Refused(Refusal::Length);
+        return Err(Refusal::Length);
     }
     if out.len() != sizes::STREAM_BLOCK_LENGTH {
-        return Outcome::Refused(Refusal::Length);
+        return Err(Refusal::Length);
     }
-    spread(block_words(start_state(key, counter, nonce)), out, 0);
-    Outcome::Done
+    spread(block_words(start_state(key, counter, nonce)), out);
+    Ok(())
 }

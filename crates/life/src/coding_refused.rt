@@ -1,8 +1,8 @@
 // Encode, Lose and Repair with any lengths and numbers, on the archive of the first life; Repair's scratch on that of the second.
-use cases::{changed, changed_of_three};
+use cases::{Archive, LIVED, LIVED_OF_THREE, Lent, first};
 use std::io;
 
-// A refused Encode with buffers of these lengths, each below 65.
+// A refused Encode with buffers of these lengths, each of at most 64.
 fn encode(
     rt: &impl Print,
     label: &str,
@@ -14,23 +14,20 @@ fn encode(
     key: usize,
     row: usize,
 ) -> io::Result<()> {
-    let s = changed(0, 0x10);
+    let s = Archive::of(&LIVED);
     let mut t = s;
-    let files = [1u8; 64];
-    let paddings = files;
-    let keys = files;
-    let rows = files;
+    let ones = [1u8; 64];
     let answer = coding::encode(
-        &mut t[0..54],
+        t.as_mut_slice(),
         node,
         place,
-        &files[0..file % 65],
-        &paddings[0..padding % 65],
-        &keys[0..key % 65],
-        &rows[0..row % 65],
+        first(&ones, file),
+        first(&ones, padding),
+        first(&ones, key),
+        first(&ones, row),
     );
-    cases::number(rt, label, expected, answer::number(answer) as u64)?;
-    cases::archive_kept(rt, s, t)
+    cases::answered(rt, label, expected, answer)?;
+    cases::unchanged(rt, &s, &t)
 }
 
 // 2, a length; 4, no such node or place; 6, place filled.
@@ -73,11 +70,11 @@ fn encode_refused(rt: &impl Print) -> io::Result<()> {
 }
 
 fn lose(rt: &impl Print, label: &str, node: usize) -> io::Result<()> {
-    let s = changed(0, 0x10);
+    let s = Archive::of(&LIVED);
     let mut t = s;
-    let answer = archive::lose(&mut t[0..54], node);
-    cases::number(rt, label, 4, answer::number(answer) as u64)?;
-    cases::archive_kept(rt, s, t)
+    let answer = archive::lose(t.as_mut_slice(), node);
+    cases::answered(rt, label, 4, answer)?;
+    cases::unchanged(rt, &s, &t)
 }
 
 fn lose_refused(rt: &impl Print) -> io::Result<()> {
@@ -87,38 +84,61 @@ fn lose_refused(rt: &impl Print) -> io::Result<()> {
     lose(rt, "Lose, node 2^64-1", 18446744073709551615)
 }
 
-// A refused Repair with lists of these lengths, each below 65; the first helper is given, the others are node 1.
+// A refused Repair with a scratch buffer of this length, of at most 64.
+fn repair_on(
+    rt: &impl Print,
+    label: &str,
+    expected: u64,
+    s: &Archive,
+    target: usize,
+    helpers: &[u8],
+    q: usize,
+    gammas: &[u8],
+    thetas: &[u8],
+    scratch: usize,
+) -> io::Result<()> {
+    let mut t = *s;
+    let mut lent = Lent::filled(0xa5, scratch);
+    let answer = coding::repair(
+        t.as_mut_slice(),
+        target,
+        helpers,
+        q,
+        gammas,
+        thetas,
+        lent.as_mut_slice(),
+    );
+    cases::answered(rt, label, expected, answer)?;
+    cases::unchanged(rt, s, &t)?;
+    cases::kept(rt, &lent)
+}
+
+// On the first life's archive, with lists of these lengths, each of at most 64; the first helper is given, the others are node 1.
 fn repair(
     rt: &impl Print,
     label: &str,
     expected: u64,
     target: usize,
     helpers: usize,
-    first: u8,
+    helper: u8,
     q: usize,
     gammas: usize,
     thetas: usize,
     scratch: usize,
 ) -> io::Result<()> {
-    let s = changed(0, 0x10);
-    let mut t = s;
-    let coefficients = [1u8; 64];
-    let others = coefficients;
-    let mut nodes = coefficients;
-    nodes[0] = first;
-    let mut lent = [0xa5u8; 64];
-    let answer = coding::repair(
-        &mut t[0..54],
+    let ones = [1u8; 64];
+    repair_on(
+        rt,
+        label,
+        expected,
+        &Archive::of(&LIVED),
         target,
-        &nodes[0..helpers % 65],
+        Lent::filled(1, helpers).with_start(&[helper]).as_slice(),
         q,
-        &coefficients[0..gammas % 65],
-        &others[0..thetas % 65],
-        &mut lent[0..scratch % 65],
-    );
-    cases::number(rt, label, expected, answer::number(answer) as u64)?;
-    cases::archive_kept(rt, s, t)?;
-    cases::kept(rt, lent)
+        first(&ones, gammas),
+        first(&ones, thetas),
+        scratch,
+    )
 }
 
 // 1, P or Q; 2, a length.
@@ -195,21 +215,18 @@ fn repair_places(rt: &impl Print) -> io::Result<()> {
 
 // Node 0 from node 1, Q=1, with three tags: the scratch buffer has 8 bytes.
 fn scratch_of_three(rt: &impl Print, label: &str, scratch: usize) -> io::Result<()> {
-    let s = changed_of_three(0, 0x20);
-    let mut t = s;
-    let mut lent = [0xa5u8; 64];
-    let answer = coding::repair(
-        &mut t[0..66],
+    repair_on(
+        rt,
+        label,
+        2,
+        &Archive::of(&LIVED_OF_THREE),
         0,
         &[1],
         1,
         &[1, 2],
         &[3, 4],
-        &mut lent[0..scratch % 65],
-    );
-    cases::number(rt, label, 2, answer::number(answer) as u64)?;
-    cases::archive_kept(rt, s, t)?;
-    cases::kept(rt, lent)
+        scratch,
+    )
 }
 
 fn scratches_of_three(rt: &impl Print) -> io::Result<()> {

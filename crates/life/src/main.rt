@@ -8,6 +8,7 @@ mod bad;
 mod coding_refused;
 mod living;
 mod losing;
+mod one_place;
 mod opening;
 mod plans;
 mod proving_refused;

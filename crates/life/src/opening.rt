@@ -1,12 +1,12 @@
 // Open: the worked header, and calls with any lengths and numbers.
-use cases::{ID, counted, counting_key};
+use cases::{ID, Lent, counting_key, first};
 use std::io;
 
 // n=3, m=2, M=1, N=3: the header and the length of 36 bytes.
 fn worked(rt: &impl Print) -> io::Result<[u8; 36]> {
     let mut s = [0xffu8; 36];
-    let answer = answer::number(archive::open(1, 3, 2, 1, 3, 1, &ID, &mut s));
-    cases::number(rt, "Open's answer", 0, answer as u64)?;
+    let answer = archive::open(1, 3, 2, 1, 3, 1, &ID, &mut s);
+    cases::answered(rt, "Open's answer", 0, answer)?;
     cases::bytes(
         rt,
         "Open, n=3, m=2, M=1, N=3: the header's first bytes",
@@ -23,30 +23,23 @@ fn worked(rt: &impl Print) -> io::Result<[u8; 36]> {
     Ok(s)
 }
 
-fn filled(rt: &impl Print, s: [u8; 36], node: usize) -> io::Result<[u8; 36]> {
-    let mut t = s;
-    let answer = answer::number(coding::encode(
-        &mut t,
+fn fill(rt: &impl Print, s: &mut [u8], node: usize) -> io::Result<()> {
+    let answer = coding::encode(
+        s,
         node,
         0,
         &[0x57, 0x01],
         &[1, 0, 0, 4],
         &counting_key(0),
         &[1, 0],
-    ));
-    cases::number(rt, "Encode's answer", 0, answer as u64)?;
-    Ok(t)
+    );
+    cases::answered(rt, "Encode's answer", 0, answer)
 }
 
-fn listed(rt: &impl Print, s: [u8; 36]) -> io::Result<()> {
+fn listed(rt: &impl Print, s: &[u8]) -> io::Result<()> {
     let mut list = [0xffu8; 3];
-    let found = archive::inventory(&s, &mut list);
-    cases::number(
-        rt,
-        "Nodes 0 and 2 filled: Inventory's number",
-        2,
-        counted(found) as u64,
-    )?;
+    let found = archive::inventory(s, &mut list);
+    cases::counted(rt, "Nodes 0 and 2 filled: Inventory's number", 2, found)?;
     cases::bytes(
         rt,
         "Nodes 0 and 2 filled: Inventory's list",
@@ -56,21 +49,16 @@ fn listed(rt: &impl Print, s: [u8; 36]) -> io::Result<()> {
 }
 
 fn marks(rt: &impl Print) -> io::Result<()> {
-    let s = filled(rt, filled(rt, worked(rt)?, 0)?, 2)?;
+    let mut s = worked(rt)?;
+    fill(rt, &mut s, 0)?;
+    fill(rt, &mut s, 2)?;
     cases::bytes(
         rt,
         "Nodes 0 and 2 filled: the marks",
         &[0xa0, 0, 0, 0, 0, 0],
         &s[12..18],
     )?;
-    listed(rt, s)
-}
-
-fn opened_with_tags(rt: &impl Print, tags: usize, len: usize) -> io::Result<[u8; 64]> {
-    let mut s = [0xffu8; 64];
-    let answer = archive::open(2, 3, 2, 1, 3, tags, &ID, &mut s[0..len % 65]);
-    cases::number(rt, "Open's answer", 0, answer::number(answer) as u64)?;
-    Ok(s)
+    listed(rt, &s)
 }
 
 // Layout 2: the header ends with the number of tags. Lose takes such an archive.
@@ -81,13 +69,15 @@ fn worked_with_tags(
     last: u8,
     len: usize,
 ) -> io::Result<()> {
-    let mut s = opened_with_tags(rt, tags, len)?;
-    cases::bytes(rt, label, &[0x20, 0x06, 0x21, last], &s[0..4])?;
-    let answer = archive::lose(&mut s[0..len % 65], 2);
-    cases::number(rt, "Lose's answer", 0, answer::number(answer) as u64)
+    let mut s = Lent::filled(0xff, len);
+    let opened = archive::open(2, 3, 2, 1, 3, tags, &ID, s.as_mut_slice());
+    cases::answered(rt, "Open's answer", 0, opened)?;
+    cases::bytes(rt, label, &[0x20, 0x06, 0x21, last], &s.bytes[0..4])?;
+    let lost = archive::lose(s.as_mut_slice(), 2);
+    cases::answered(rt, "Lose's answer", 0, lost)
 }
 
-// A refused Open with an id and an archive of these lengths, each below 65.
+// A refused Open with an id and an archive of these lengths, each of at most 64.
 fn open(
     rt: &impl Print,
     label: &str,
@@ -101,20 +91,19 @@ fn open(
     id: usize,
     len: usize,
 ) -> io::Result<()> {
-    let ids = [0xa5u8; 64];
-    let mut lent = ids;
-    let answer = answer::number(archive::open(
+    let mut lent = Lent::filled(0xa5, len);
+    let answer = archive::open(
         layout,
         n,
         m,
         places,
         nodes,
         tags,
-        &ids[0..id % 65],
-        &mut lent[0..len % 65],
-    ));
-    cases::number(rt, label, expected, answer as u64)?;
-    cases::kept(rt, lent)
+        first(&[0xa5; 64], id),
+        lent.as_mut_slice(),
+    );
+    cases::answered(rt, label, expected, answer)?;
+    cases::kept(rt, &lent)
 }
 
 // Under layout 1, with one tag.

@@ -1,57 +1,31 @@
 // Plan on the archives at the end of the lives, where node 1 holds the rows 53 ca and 00 00, node 2 f3 fe and 72 fb, and node 0 none; and
 // on one of one place a node, with the rows 02 03, 04 06 and 01 00. Thetas, Repair with them, and every refusal.
-use cases::{Bytes, ID, changed, changed_of_three, counting_key};
+use super::one_place::encoded;
+use cases::{Archive, LIVED, LIVED_OF_THREE, Lent, first};
 use std::io;
-
-// An answer, and the thetas lent among bytes that were a5.
-#[derive(Clone, Copy)]
-struct Answered {
-    answer: u8,
-    thetas: [u8; 64],
-}
-
-// Of the first `len` bytes, with `count` thetas.
-fn plan(
-    s: Bytes,
-    len: usize,
-    helpers: &[u8],
-    q: usize,
-    gammas: &[u8],
-    rows: &[u8],
-    count: usize,
-) -> Answered {
-    let mut thetas = [0xa5u8; 64];
-    let answer = answer::number(planning::plan(
-        &s[0..len % 81],
-        helpers,
-        q,
-        gammas,
-        rows,
-        &mut thetas[0..count % 65],
-    ));
-    Answered { answer, thetas }
-}
-
-fn shown(rt: &impl Print, expected: &[u8], thetas: [u8; 64]) -> io::Result<()> {
-    cases::bytes(rt, "Its thetas", expected, &thetas[0..expected.len() % 65])
-}
 
 // A call that is done gives these thetas.
 fn planned(
     rt: &impl Print,
     label: &str,
-    s: Bytes,
-    len: usize,
+    s: &Archive,
     helpers: &[u8],
     q: usize,
     gammas: &[u8],
     rows: &[u8],
     expected: &[u8],
-) -> io::Result<[u8; 64]> {
-    let p = plan(s, len, helpers, q, gammas, rows, expected.len());
-    let thetas = p.thetas;
-    cases::number(rt, label, 0, p.answer as u64)?;
-    shown(rt, expected, thetas)?;
+) -> io::Result<Lent> {
+    let mut thetas = Lent::filled(0xa5, expected.len());
+    let answer = planning::plan(
+        s.as_slice(),
+        helpers,
+        q,
+        gammas,
+        rows,
+        thetas.as_mut_slice(),
+    );
+    cases::answered(rt, label, 0, answer)?;
+    cases::bytes(rt, "Its thetas", expected, thetas.as_slice())?;
     Ok(thetas)
 }
 
@@ -60,57 +34,57 @@ fn refused(
     rt: &impl Print,
     label: &str,
     expected: u64,
-    s: Bytes,
-    len: usize,
+    s: &Archive,
     helpers: &[u8],
     q: usize,
     gammas: &[u8],
     rows: &[u8],
     count: usize,
 ) -> io::Result<()> {
-    let p = plan(s, len, helpers, q, gammas, rows, count);
-    let thetas = p.thetas;
-    cases::number(rt, label, expected, p.answer as u64)?;
-    cases::kept(rt, thetas)
+    let mut thetas = Lent::filled(0xa5, count);
+    let answer = planning::plan(
+        s.as_slice(),
+        helpers,
+        q,
+        gammas,
+        rows,
+        thetas.as_mut_slice(),
+    );
+    cases::answered(rt, label, expected, answer)?;
+    cases::kept(rt, &thetas)
 }
 
-// The rows of node 0, with one tag.
-fn rows_of(s: Bytes) -> [u8; 4] {
-    [s[21], s[22], s[27], s[28]]
-}
-
-// Repair of node 0 by a plan of `count` thetas, with one tag: half as many blocks of six bytes.
+// Repair of node 0 by a plan, with one tag: half as many blocks of six bytes as thetas. The rows that it then has.
 fn repaired(
     rt: &impl Print,
     helpers: &[u8],
     q: usize,
     gammas: &[u8],
-    thetas: [u8; 64],
-    count: usize,
+    thetas: &Lent,
+    scratch: &mut [u8],
     rows: &[u8],
 ) -> io::Result<()> {
-    let mut s = changed(0, 0x10);
-    let mut scratch = [0u8; 64];
-    let answer = answer::number(coding::repair(
-        &mut s[0..54],
+    let mut s = Archive::of(&LIVED);
+    let answer = coding::repair(
+        s.as_mut_slice(),
         0,
         helpers,
         q,
         gammas,
-        &thetas[0..count % 65],
-        &mut scratch[0..count % 65 * 3 % 65],
-    ));
-    cases::number(rt, "Repair by that plan", 0, answer as u64)?;
-    cases::bytes(rt, "Its rows", rows, &rows_of(s))
+        thetas.as_slice(),
+        scratch,
+    );
+    cases::answered(rt, "Repair by that plan", 0, answer)?;
+    let got = [s.bytes[21], s.bytes[22], s.bytes[27], s.bytes[28]];
+    cases::bytes(rt, "Its rows", rows, &got)
 }
 
 fn life(rt: &impl Print) -> io::Result<()> {
-    let s = changed(0, 0x10);
+    let s = Archive::of(&LIVED);
     let thetas = planned(
         rt,
         "Plan from node 2",
-        s,
-        54,
+        &s,
         &[2],
         2,
         &[1, 0, 0, 1],
@@ -122,15 +96,14 @@ fn life(rt: &impl Print) -> io::Result<()> {
         &[2],
         2,
         &[1, 0, 0, 1],
-        thetas,
-        4,
+        &thetas,
+        &mut [0; 12],
         &[0x01, 0x00, 0x02, 0x03],
     )?;
     planned(
         rt,
         "Plan from node 1, rows within its own",
-        s,
-        54,
+        &s,
         &[1],
         2,
         &[1, 0, 0, 1],
@@ -140,8 +113,7 @@ fn life(rt: &impl Print) -> io::Result<()> {
     planned(
         rt,
         "Plan with a helper named twice",
-        s,
-        54,
+        &s,
         &[2, 2],
         1,
         &[1, 0, 0, 1],
@@ -156,8 +128,7 @@ fn both_helpers(rt: &impl Print) -> io::Result<()> {
     let thetas = planned(
         rt,
         "Plan from nodes 1 and 2, two blocks depend",
-        changed(0, 0x10),
-        54,
+        &Archive::of(&LIVED),
         &[1, 2],
         2,
         &gammas,
@@ -169,8 +140,8 @@ fn both_helpers(rt: &impl Print) -> io::Result<()> {
         &[1, 2],
         2,
         &gammas,
-        thetas,
-        8,
+        &thetas,
+        &mut [0; 24],
         &[0x01, 0x00, 0x02, 0x03],
     )
 }
@@ -179,8 +150,7 @@ fn of_three(rt: &impl Print) -> io::Result<()> {
     planned(
         rt,
         "Plan from node 2, L=3",
-        changed_of_three(0, 0x20),
-        66,
+        &Archive::of(&LIVED_OF_THREE),
         &[2],
         2,
         &[1, 0, 0, 1],
@@ -191,13 +161,12 @@ fn of_three(rt: &impl Print) -> io::Result<()> {
 }
 
 fn out_of_reach(rt: &impl Print) -> io::Result<()> {
-    let s = changed(0, 0x10);
+    let s = Archive::of(&LIVED);
     refused(
         rt,
         "Plan, rows that node 1 does not reach",
         12,
-        s,
-        54,
+        &s,
         &[1],
         2,
         &[1, 0, 0, 1],
@@ -208,8 +177,7 @@ fn out_of_reach(rt: &impl Print) -> io::Result<()> {
         rt,
         "Plan, the last row alone not reached",
         12,
-        s,
-        54,
+        &s,
         &[1],
         2,
         &[1, 0, 0, 1],
@@ -218,38 +186,12 @@ fn out_of_reach(rt: &impl Print) -> io::Result<()> {
     )
 }
 
-// The one place of a node, with a row.
-fn encoded(s: Bytes, node: usize, row: [u8; 2]) -> Bytes {
-    let mut t = s;
-    coding::encode(
-        &mut t[0..36],
-        node,
-        0,
-        &[0x57, 0x01],
-        &[1, 0, 0, 4],
-        &counting_key(0),
-        &row,
-    );
-    t
-}
-
-fn opened() -> Bytes {
-    let mut s = [0u8; 80];
-    archive::open(1, 3, 2, 1, 3, 1, &ID, &mut s[0..36]);
-    s
-}
-
 fn one_place(rt: &impl Print) -> io::Result<()> {
-    let s = encoded(
-        encoded(encoded(opened(), 0, [0x02, 0x03]), 1, [0x04, 0x06]),
-        2,
-        [0x01, 0x00],
-    );
+    let s = encoded(3, 36, &[[0x02, 0x03], [0x04, 0x06], [0x01, 0x00]]);
     planned(
         rt,
         "Plan, the second block depends",
-        s,
-        36,
+        &s,
         &[0, 1, 2],
         1,
         &[1, 1, 1],
@@ -259,8 +201,7 @@ fn one_place(rt: &impl Print) -> io::Result<()> {
     planned(
         rt,
         "Plan, a first block of zeros",
-        s,
-        36,
+        &s,
         &[0, 1, 2],
         1,
         &[0, 1, 1],
@@ -270,8 +211,7 @@ fn one_place(rt: &impl Print) -> io::Result<()> {
     planned(
         rt,
         "Plan, in the helpers' order",
-        s,
-        36,
+        &s,
         &[1, 0],
         1,
         &[1, 1],
@@ -282,8 +222,7 @@ fn one_place(rt: &impl Print) -> io::Result<()> {
         rt,
         "Plan, a row beside theirs",
         12,
-        s,
-        36,
+        &s,
         &[0, 1],
         1,
         &[1, 1],
@@ -298,26 +237,22 @@ fn refused_by(
     label: &str,
     expected: u64,
     helpers: usize,
-    first: u8,
+    helper: u8,
     q: usize,
     gammas: usize,
     rows: usize,
     thetas: usize,
 ) -> io::Result<()> {
     let ones = [1u8; 64];
-    let wanted = ones;
-    let mut nodes = ones;
-    nodes[0] = first;
     refused(
         rt,
         label,
         expected,
-        changed(0, 0x10),
-        54,
-        &nodes[0..helpers % 65],
+        &Archive::of(&LIVED),
+        Lent::filled(1, helpers).with_start(&[helper]).as_slice(),
         q,
-        &ones[0..gammas % 65],
-        &wanted[0..rows % 65],
+        first(&ones, gammas),
+        first(&ones, rows),
         thetas,
     )
 }
@@ -342,12 +277,12 @@ fn places(rt: &impl Print) -> io::Result<()> {
     refused_by(rt, "Plan, helper 3", 4, 1, 3, 1, 2, 4, 2)?;
     refused_by(rt, "Plan, helper 255", 4, 2, 255, 1, 4, 4, 4)?;
     refused_by(rt, "Plan, an empty helper", 5, 2, 0, 1, 4, 4, 4)?;
+    let s = Archive::of(&LIVED);
     refused(
         rt,
         "Plan, layout 3",
         3,
-        changed(0, 0x30),
-        54,
+        &s.with_byte(0, 0x30),
         &[1],
         9,
         &[],
@@ -358,8 +293,7 @@ fn places(rt: &impl Print) -> io::Result<()> {
         rt,
         "Plan, archive one short",
         3,
-        changed(0, 0x10),
-        53,
+        &s.with_len(53),
         &[3],
         1,
         &[1],
@@ -370,8 +304,7 @@ fn places(rt: &impl Print) -> io::Result<()> {
         rt,
         "Plan, no archive",
         3,
-        changed(0, 0x10),
-        0,
+        &s.with_len(0),
         &[],
         0,
         &[],

@@ -1,8 +1,8 @@
 // Prove with any lengths and messages, on the archive of the first life in numbers; with any lengths on that of the second.
-use cases::{CHALLENGE, LIVED, LIVED_OF_THREE};
+use cases::{CHALLENGE, LIVED, LIVED_OF_THREE, Lent, first};
 use std::io;
 
-// A refused Prove with buffers of these lengths, each below 65.
+// A refused Prove with buffers of these lengths, each of at most 64.
 fn prove_on(
     rt: &impl Print,
     label: &str,
@@ -14,20 +14,18 @@ fn prove_on(
     seed: usize,
     response: usize,
 ) -> io::Result<()> {
-    let keys = [1u8; 64];
-    let lists = keys;
-    let seeds = keys;
-    let mut lent = [0xa5u8; 64];
+    let ones = [1u8; 64];
+    let mut lent = Lent::filled(0xa5, response);
     let answer = proving::prove(
         archive,
-        &keys[0..mask_key % 65],
-        &lists[0..elements % 65],
-        &seeds[0..seed % 65],
+        first(&ones, mask_key),
+        first(&ones, elements),
+        first(&ones, seed),
         message,
-        &mut lent[0..response % 65],
+        lent.as_mut_slice(),
     );
-    cases::number(rt, label, expected, answer::number(answer) as u64)?;
-    cases::kept(rt, lent)
+    cases::answered(rt, label, expected, answer)?;
+    cases::kept(rt, &lent)
 }
 
 fn prove(

@@ -1,5 +1,5 @@
 // Inventory and Read with any lengths, Inventory of other marks, and Read of damaged records.
-use cases::{changed, counted};
+use cases::{Archive, LIVED, Lent};
 use std::io;
 
 fn inventory(
@@ -9,19 +9,19 @@ fn inventory(
     layout: u8,
     len: usize,
 ) -> io::Result<()> {
-    let s = changed(0, layout);
-    let mut lent = [0xa5u8; 64];
-    let found = archive::inventory(&s[0..54], &mut lent[0..len % 65]);
-    cases::number(rt, label, expected, answer::counted_number(found) as u64)?;
-    cases::kept(rt, lent)
+    let s = Archive::of(&LIVED).with_byte(0, layout);
+    let mut lent = Lent::filled(0xa5, len);
+    let found = archive::inventory(s.as_slice(), lent.as_mut_slice());
+    cases::answered(rt, label, expected, found)?;
+    cases::kept(rt, &lent)
 }
 
 // The first life's archive with other fill marks.
 fn listed(rt: &impl Print, label: &str, marks: u8, count: u64, list: [u8; 6]) -> io::Result<()> {
-    let s = changed(12, marks);
+    let s = Archive::of(&LIVED).with_byte(12, marks);
     let mut got = [0xffu8; 6];
-    let found = archive::inventory(&s[0..54], &mut got);
-    cases::number(rt, label, count, counted(found) as u64)?;
+    let found = archive::inventory(s.as_slice(), &mut got);
+    cases::counted(rt, label, count, found)?;
     cases::bytes(rt, label, &list, &got)
 }
 
@@ -33,19 +33,19 @@ fn read(
     b: u8,
     len: usize,
 ) -> io::Result<()> {
-    let s = changed(at, b);
-    let mut lent = [0xa5u8; 64];
-    let done = reading::read(&s[0..54], &mut lent[0..len % 65]);
-    cases::number(rt, label, expected, answer::counted_number(done) as u64)?;
-    cases::kept(rt, lent)
+    let s = Archive::of(&LIVED).with_byte(at, b);
+    let mut lent = Lent::filled(0xa5, len);
+    let done = reading::read(s.as_slice(), lent.as_mut_slice());
+    cases::answered(rt, label, expected, done)?;
+    cases::kept(rt, &lent)
 }
 
 // Record contents are not examined: a file solves for the places taken, whatever they hold.
 fn damaged(rt: &impl Print, label: &str, at: usize, b: u8, file: [u8; 2]) -> io::Result<()> {
-    let s = changed(at, b);
+    let s = Archive::of(&LIVED).with_byte(at, b);
     let mut got = [0u8; 2];
-    let done = reading::read(&s[0..54], &mut got);
-    cases::number(rt, label, 3, counted(done) as u64)?;
+    let done = reading::read(s.as_slice(), &mut got);
+    cases::counted(rt, label, 3, done)?;
     cases::bytes(rt, label, &file, &got)
 }
 

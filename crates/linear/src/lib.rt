@@ -6,7 +6,6 @@ mod rows;
 ghost use Rattle.std.specs.Prelude.{◌≡◌, ℕ, ◌<◌, ◌≤◌};
 ghost use Rattle.lists.specs.Lists.{at};
 ghost use Rattle.field.specs.Field.{plus, times};
-ghost use Rattle.field.specs.PrivateTables.{FieldTables};
 ghost use Rattle.linear.specs.PrivateElimination.{cells, Reduces, LastIsCombined};
 ghost use Rattle.linear.specs.PrivateSteps.{unit_at, swap_op, scale_op, Operated};
 
@@ -27,28 +26,22 @@ fn swapped(a: [[u8; 16]; 16], i: usize, j: usize) -> [[u8; 16]; 16]
     ensures { Operated 16 (swap_op i j) a result }
 {
     let mut out = a;
-    let x = a[i];
-    let y = a[j];
-    out[i] = y;
-    out[j] = x;
+    out.swap(i, j);
     out
 }
 
 // The row v and c times the row w, added.
 pub fn added_row(tables: &Tables, v: [u8; 16], w: [u8; 16], c: u8) -> [u8; 16]
-    requires { FieldTables tables.now }
     ensures { (j : ℕ) → j < 16 → at result j ≡ plus (at v j) (times c (at w j)) }
 {
     let mut out = v;
-    for j in 0..16 {
-        out[j] = v[j] ^ field::product(tables, c, w[j]);
-    }
+    vector::add_multiple(tables, c, &w, &mut out);
     out
 }
 
 // Row r times c.
 fn scaled(tables: &Tables, a: [[u8; 16]; 16], r: usize, c: u8) -> [[u8; 16]; 16]
-    requires { FieldTables tables.now × (r < 16) }
+    requires { r < 16 }
     ensures { Operated 16 (scale_op r c) a result }
 {
     let mut out = a;
@@ -62,23 +55,24 @@ fn unit() -> [[u8; 16]; 16]
     ensures { (i j : ℕ) → i < 16 → j < 16 → cells result i j ≡ unit_at j i }
 {
     let mut out = [[0u8; 16]; 16];
-    for i in 0..16 {
-        out[i][i] = 1;
+    for (i, row) in out.iter_mut().enumerate() {
+        row[i] = 1;
     }
     out
 }
 
+// What elimination found: the rank, and the combinations of the given rows that made the reduced ones.
+#[derive(Clone, Copy)]
+pub struct Reduced {
+    pub rank: usize,
+    pub combinations: [[u8; 16]; 16],
+}
+
 // Elimination over lent tables: column by column, a pivot is sought among the rows below the rank, brought up and made one, and the
-// other rows are cleared by it. What is done to the rows is done to the unit matrix.
-fn eliminated(
-    tables: &Tables,
-    a: [[u8; 16]; 16],
-    k: usize,
-    m: usize,
-    rank: &mut usize,
-) -> [[u8; 16]; 16]
-    requires { FieldTables tables.now × (k ≤ 16) × (m ≤ 16) }
-    ensures { Reduces k m (cells a) (cells result) rank.new }
+// other rows are cleared by it. What is done to the rows is done to the unit matrix. The labelled loops are a form that document 01 names.
+fn eliminated(tables: &Tables, a: [[u8; 16]; 16], k: usize, m: usize) -> Reduced
+    requires { (k ≤ 16) × (m ≤ 16) }
+    ensures { Reduces k m (cells a) (cells result.combinations) result.rank }
 {
     let mut e = a;
     let mut t = unit();
@@ -107,18 +101,19 @@ fn eliminated(
         }
         top += 1;
     }
-    *rank = top;
-    t
+    Reduced {
+        rank: top,
+        combinations: t,
+    }
 }
 
-// Elimination on a copy of the first k rows of a, m elements each: the rank, and the combinations of the given rows that made the
-// reduced ones.
-pub fn reduce(a: [[u8; 16]; 16], k: usize, m: usize, rank: &mut usize) -> [[u8; 16]; 16]
+// Elimination on a copy of the first k rows of a, m elements each.
+pub fn reduce(a: [[u8; 16]; 16], k: usize, m: usize) -> Reduced
     requires { (k ≤ 16) × (m ≤ 16) }
-    ensures { Reduces k m (cells a) (cells result) rank.new }
+    ensures { Reduces k m (cells a) (cells result.combinations) result.rank }
 {
-    let tables = field::tables();
-    eliminated(&tables, a, k, m, rank)
+    let tables = Tables::new();
+    eliminated(&tables, a, k, m)
 }
 
 // Column j.
@@ -127,8 +122,8 @@ fn column(a: [[u8; 16]; 16], j: usize) -> [u8; 16]
     ensures { (i : ℕ) → i < 16 → at result i ≡ cells a i j }
 {
     let mut out = [0u8; 16];
-    for i in 0..16 {
-        out[i] = a[i][j];
+    for (i, element) in out.iter_mut().enumerate() {
+        *element = a[i][j];
     }
     out
 }
@@ -138,8 +133,8 @@ pub fn turned(a: [[u8; 16]; 16]) -> [[u8; 16]; 16]
     ensures { (i j : ℕ) → i < 16 → j < 16 → cells result i j ≡ cells a j i }
 {
     let mut out = [[0u8; 16]; 16];
-    for i in 0..16 {
-        out[i] = column(a, i);
+    for (i, row) in out.iter_mut().enumerate() {
+        *row = column(a, i);
     }
     out
 }

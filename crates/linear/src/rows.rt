@@ -1,7 +1,6 @@
 // Rows, as they are kept.
-ghost use Rattle.std.specs.Prelude.{◌≡◌, ◌+◌, ◌≤◌, length};
+ghost use Rattle.std.specs.Prelude.{◌≡◌, ◌≤◌, length};
 ghost use Rattle.lists.specs.Lists.{at};
-ghost use Rattle.field.specs.PrivateTables.{FieldTables};
 ghost use Rattle.vector.specs.Vectors.{product, all_zero};
 ghost use Rattle.linear.specs.PrivateRows.{kept};
 
@@ -13,13 +12,13 @@ pub struct Row {
     pub bytes: [u8; 16],
 }
 
-// The row whose m elements stand from `from` on.
-pub fn row_from(s: &[u8], from: usize, m: usize) -> Row
-    requires { (m ≤ 16) × (from + m ≤ length s.now) }
-    ensures { result ≡ kept m (λ i. at s.now (from + i)) }
+// The row of these elements.
+pub fn row_from(elements: &[u8]) -> Row
+    requires { length elements.now ≤ 16 }
+    ensures { result ≡ kept (length elements.now) (at elements.now) }
 {
     let mut bytes = [0u8; 16];
-    lists::store(s, from, &mut bytes, 0, m);
+    bytes[..elements.len()].copy_from_slice(elements);
     Row { bytes }
 }
 
@@ -28,19 +27,13 @@ pub fn all_zero(row: Row, m: usize) -> bool
     requires { m ≤ 16 }
     ensures { result ≡ all_zero m (at row.bytes) }
 {
-    for i in 0..m {
-        if row.bytes[i] != 0 {
-            return false;
-        }
-    }
-    true
+    row.bytes[..m].iter().all(|b| *b == 0)
 }
 
-// The product of a row's m elements and the first m bytes of a vector.
-pub fn dot(tables: &Tables, row: Row, vector: &[u8], m: usize) -> u8
-    requires { FieldTables tables.now × (m ≤ 16) × (m ≤ length vector.now) }
-    ensures { result ≡ product m (at row.bytes) (at vector.now) }
+// The product of a vector and a row's first elements.
+pub fn dot(tables: &Tables, row: Row, vector: &[u8]) -> u8
+    requires { length vector.now ≤ 16 }
+    ensures { result ≡ product (length vector.now) (at row.bytes) (at vector.now) }
 {
-    let bytes = row.bytes;
-    vector::product_of(tables, &bytes, vector, m)
+    vector::product_of(tables, &row.bytes[..vector.len()], vector)
 }

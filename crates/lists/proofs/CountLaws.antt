@@ -41,7 +41,7 @@ how_many_one (suc n) k f h others =
       | no e ↦ rw (how_many_one n k f (omega arith) (λ i l. others i (omega arith)), others n (omega arith) (λ q. e (sym q))) (omega arith)
     ]
 
-how_many_split : (a b : ℕ) (f : ℕ → Bool) → how_many (a + b) f ≡ how_many a f + how_many b (λ i. f (a + i))
+pub how_many_split : (a b : ℕ) (f : ℕ → Bool) → how_many (a + b) f ≡ how_many a f + how_many b (λ i. f (a + i))
 unfolding how_many
 how_many_split a zero f = simp add-zero
 how_many_split a (suc b) f = rw (add-suc, how_many_split a b f) (omega arith)

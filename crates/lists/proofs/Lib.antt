@@ -6,8 +6,11 @@ pub mod HoldLaws
 pub mod ListingLaws
 pub mod PutLaws
 pub mod PartLaws
+pub mod SliceLaws
+pub mod RangeLaws
 pub mod OverLaws
 pub mod AnyLaws
 pub mod AllLaws
-pub mod ReplaceLaws
 pub mod SortedLaws
+pub mod ChainLaws
+pub mod ArrayLaws

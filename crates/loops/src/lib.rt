@@ -7,13 +7,8 @@ ghost use Rattle.field.specs.Field.{sum};
 ghost use Rattle.vector.specs.Vectors.{product};
 ghost use Rattle.keystream.specs.Draws.{byte_at};
 
+use field::Tables;
 use keystream::Stream;
-
-fn shorter(a: usize, b: usize) -> usize
-    ensures { result ≡ min a b }
-{
-    if a < b { a } else { b }
-}
 
 // The product of two vectors: the sum of the products of their elements, as many as the shorter has.
 #[unsafe(no_mangle)]
@@ -22,9 +17,9 @@ pub extern "C" fn loops_product(a: &[u8], b: &[u8]) -> u8
         let b = b.entry.now in
         result ≡ product (min (length a) (length b)) (at a) (at b) }
 {
-    let tables = field::tables();
-    let n = shorter(a.len(), b.len());
-    vector::product_of(&tables, a, b, n)
+    let tables = Tables::new();
+    let n = a.len().min(b.len());
+    vector::product_of(&tables, &a[..n], &b[..n])
 }
 
 // The sum of the first n bytes of a stream.
@@ -36,9 +31,8 @@ pub extern "C" fn loops_draw(key: &[u8; 32], nonce: &[u8; 12], n: usize) -> u8
     let mut total = 0u8;
     for _ in 0..n {
         let d = s.next();
-        total = total ^ d.byte;
-        let t = d.stream;
-        s = t;
+        total ^= d.byte;
+        s = d.stream;
     }
     total
 }

@@ -1,12 +1,12 @@
 -- The places that remain when the nodes of a set are lost, and what the rank of their rows decides. Assumes nothing.
 use Prim.Native.Nat.{ℕ, ◌/◌, ◌<◌}
-use mathlib.Core.Path.{◌≡◌, refl, ap, ◌∙◌}
-use mathlib.Core.Bool.{Bool, true, false, not}
+use mathlib.Core.Path.{◌≡◌, ap, ◌∙◌}
+use mathlib.Core.Bool.{Bool, false}
 use mathlib.Core.List.{List}
 use native.Mathlib.Omega.{arith}
 use borrow.Author.Tests.{ltb-true, ltb-false}
-use lib.Dec.{eqb, ltb}
-use Rattle.lists.specs.Lists.{pick, at}
+use lib.Dec.{ltb}
+use Rattle.lists.specs.Lists.{pick}
 use Rattle.sizes.specs.declared.Sizes.{Sizes}
 use Rattle.sizes.specs.Lengths.{place_count}
 use Rattle.linear.specs.PrivateElimination.{Matrix, Reduces}
@@ -18,16 +18,8 @@ use Rattle.archive.specs.Losses.{in_set, remains, Hurts}
 use Rattle.reading.proofs.ReadingLaws.{ChosenIn, chosen_alike, unreadable, readable}
 use Rattle.losses.specs.PrivateSets.{Decides}
 
--- a mark that was cleared where its node is lost
-pub replaced_offered : (filled out : List ℕ) (k : ℕ) (lost : Bool) → at out k ≡ pick lost 0 (at filled k) → offered out k ≡ pick lost false (offered filled k)
-replaced_offered filled out k lost e = ap (λ (x : ℕ). not (eqb x 0)) e ∙ by lost
-  where
-    by : (b : Bool) → not (eqb (pick b 0 (at filled k)) 0) ≡ pick b false (offered filled k)
-    by true = refl
-    by false = refl
-
 -- the choice among the places that remain, and the rank of the rows taken
-module _ (z : Sizes) (s : List ℕ) (set : ℕ) (filled left : List ℕ) (marks : (k : ℕ) → k < place_count z → offered filled k ≡ mark_at s k)
+module _ (z : Sizes) (s : List ℕ) (set : ℕ) (filled left : List Bool) (marks : (k : ℕ) → k < place_count z → offered filled k ≡ mark_at s k)
     (cleared : (k : ℕ) → k < place_count z → offered left k ≡ pick (in_set set (k / z.places)) false (offered filled k)) (c : Chosen)
     (chosen : ChosenIn z s (offered left) c) (t : Matrix) (rank : ℕ) (reduced : Reduces c.count z.m (listed_rows (row_in z s) c) t rank) where
   remaining : ChosenIn z s (remains z s set) c

@@ -4,7 +4,7 @@
 mod sets;
 
 ghost use Rattle.std.specs.Prelude.{◌≡◌, false, ℕ, ◌/◌, ◌<◌, ◌≤◌, length};
-ghost use Rattle.lists.specs.Lists.{pick};
+ghost use Rattle.lists.specs.Lists.{pick, at};
 ghost use Rattle.sizes.specs.Sizes.{sizes_outside};
 ghost use Rattle.sizes.specs.Lengths.{place_count, archive_length};
 ghost use Rattle.choice.specs.PrivateChoice.{offered};
@@ -12,43 +12,44 @@ ghost use Rattle.archive.specs.Layout.{sizes_of, mark_at, bad_archive};
 ghost use Rattle.archive.specs.Losses.{in_set, SetOf, Hurts, list_length, Losses, LossesAllows};
 ghost use Rattle.losses.specs.PrivateSets.{Decides};
 
-use answer::{Counted, Refusal};
+use answer::Refusal;
 use sets::{SETS, in_set, is_sized, set_at};
 use sizes::Sizes;
+use std::array;
 
 // The length of a list of sets: no k and no number of nodes has more.
 const LIST_LENGTH: usize = 20;
 
+// Whether place number k stays filled when the nodes of a set are lost.
+fn stays_filled(filled: [bool; 48], z: Sizes, set: usize, k: usize) -> bool
+    requires { (sizes_outside z ≡ false) × (k < 48) }
+    ensures { result ≡ pick (in_set set (k / z.places)) false (offered filled k) }
+{
+    !in_set(set, k / z.places) && filled[k]
+}
+
 // The marks of the places that remain when the nodes of a set are lost.
-fn without(filled: [u8; 48], z: Sizes, set: usize) -> [u8; 48]
+fn without(filled: [bool; 48], z: Sizes, set: usize) -> [bool; 48]
     requires { sizes_outside z ≡ false }
     ensures { (k : ℕ) → k < place_count z → offered result k ≡ pick (in_set set (k / z.places)) false (offered filled k) }
 {
-    let mut out = filled;
-    for k in 0..z.nodes * z.places {
-        if in_set(set, k / z.places) {
-            out[k] = 0;
-        }
-    }
-    out
+    array::from_fn(|k| stays_filled(filled, z, set, k))
 }
 
 // Whether the file cannot be read without the nodes of a set. The rank is the number of rows taken; elimination also has, where that is too
 // few, the vector that they leave open.
-fn hurts(archive: &[u8], z: Sizes, filled: [u8; 48], set: usize) -> bool
+fn hurts(archive: &[u8], z: Sizes, filled: [bool; 48], set: usize) -> bool
     requires { (sizes_outside z ≡ false)
         × (length archive.now ≡ archive_length z)
         × ((k : ℕ) → k < place_count z → offered filled k ≡ mark_at archive.now k) }
     ensures { Decides result (Hurts z archive.now set) }
 {
     let chosen = reading::take(archive, z, without(filled, z, set));
-    let mut rank = 0;
-    reading::eliminate(archive, z, chosen, &mut rank);
-    rank < z.m
+    reading::eliminate(archive, z, chosen).rank < z.m
 }
 
 // Whether a set is listed: it has k nodes, and hurts.
-fn listed(archive: &[u8], z: Sizes, filled: [u8; 48], k: usize, set: usize) -> bool
+fn listed(archive: &[u8], z: Sizes, filled: [bool; 48], k: usize, set: usize) -> bool
     requires { (sizes_outside z ≡ false)
         × (length archive.now ≡ archive_length z)
         × ((k : ℕ) → k < place_count z → offered filled k ≡ mark_at archive.now k) }
@@ -69,7 +70,7 @@ fn list_losses(archive: &[u8], k: usize, sets: &mut [u8]) -> usize
 {
     let z = archive::sizes_in(archive);
     let filled = reading::marks(archive, z);
-    lists::clear(sets);
+    sets.fill(0);
     let mut count = 0;
     for x in 0..SETS {
         let set = set_at(x);
@@ -82,18 +83,18 @@ fn list_losses(archive: &[u8], k: usize, sets: &mut [u8]) -> usize
 }
 
 // The sets of k nodes whose loss would leave the file unreadable, in lexicographic order, and their number.
-pub fn losses(archive: &[u8], k: usize, sets: &mut [u8]) -> Counted
+pub fn losses(archive: &[u8], k: usize, sets: &mut [u8]) -> Result<usize, Refusal>
     ensures { LossesAllows archive.now k sets.old result sets.new }
 {
     if archive::bad_archive(archive) {
-        return Counted::Refused(Refusal::BadArchive);
+        return Err(Refusal::BadArchive);
     }
     let z = archive::sizes_in(archive);
     if k > z.nodes {
-        return Counted::Refused(Refusal::Size);
+        return Err(Refusal::Size);
     }
     if sets.len() != LIST_LENGTH {
-        return Counted::Refused(Refusal::Length);
+        return Err(Refusal::Length);
     }
-    Counted::Count(list_losses(archive, k, sets))
+    Ok(list_losses(archive, k, sets))
 }

@@ -8,7 +8,7 @@ pub const SETS: usize = 64;
 
 // Whether a node is in a set.
 pub fn in_set(set: usize, node: usize) -> bool
-    requires { node < 8 }
+    requires { node < 64 }
     ensures { result ≡ in_set set node }
 {
     (set >> node) % 2 == 1
@@ -18,13 +18,7 @@ pub fn in_set(set: usize, node: usize) -> bool
 fn size_of(set: usize) -> usize
     ensures { result ≡ length (nodes_in set) }
 {
-    let mut count = 0;
-    for node in 0..8 {
-        if in_set(set, node) {
-            count += 1;
-        }
-    }
-    count
+    (0..8).filter(|node| in_set(set, *node)).count()
 }
 
 // Whether a set is one of k of so many nodes.
@@ -41,9 +35,5 @@ pub fn set_at(x: usize) -> usize
     requires { x < 64 }
     ensures { result ≡ set_at x }
 {
-    let mut set = 0;
-    for node in 0..sizes::NODES_MOST {
-        set = set * 2 + ((SETS - 1 - x) >> node) % 2;
-    }
-    set
+    (0..sizes::NODES_MOST).fold(0, |set, node| set * 2 + ((SETS - 1 - x) >> node) % 2)
 }

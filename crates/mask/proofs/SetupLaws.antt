@@ -4,11 +4,12 @@ use mathlib.Core.Path.{◌≡◌, sym, ◌∙◌, ap}
 use mathlib.Core.List.{List, ◌∷◌}
 use native.Mathlib.Omega.{arith}
 use lib.ListN.{length}
+use borrow.Rule.Slice.PartMut.{put_mid}
 use Rattle.lists.specs.Lists.{at, put, grid}
-use Rattle.lists.proofs.PutLaws.{put_at, put_same, grid_at, grid_more, flat_same}
+use Rattle.lists.proofs.PutLaws.{length_put, put_front, length_grid, grid_at, grid_more, flat_same}
+use Rattle.lists.proofs.ChainLaws.{put_part}
 use Rattle.lists.proofs.AnyLaws.{none_at}
-use Rattle.answer.specs.declared.Outcome.{Outcome}
-use Rattle.answer.specs.declared.Outcome.TheVariants.{Done}
+use Rattle.answer.specs.Answer.{Outcome, done}
 use Rattle.answer.proofs.RefusalLaws.{accepted, same}
 use Rattle.field.proofs.SumLaws.{sum_same}
 use Rattle.field.proofs.TimesLaws.{times_comm}
@@ -27,7 +28,7 @@ use Rattle.mask.specs.Setup.{setup_answer}
 -- ---- Setup
 
 module _ (tag_key mask_key id : List ℕ) (n tags : ℕ) (out : List ℕ) {o : Outcome} (answer : o ≡ setup_answer tag_key mask_key id n tags out) where
-  pub setup_sizes : o ≡ Done
+  pub setup_sizes : o ≡ done
       → (n_least ≤ n) × (n ≤ n_most) × (tags ≤ tags_most) × (length tag_key ≡ key_length) × (length mask_key ≡ key_length) × (length id ≡ id_length)
       × (length out ≡ auxiliary_length n tags)
   unfolding setup_answer
@@ -39,13 +40,15 @@ module _ (tag_key mask_key id : List ℕ) (n tags : ℕ) (out : List ℕ) {o : O
 
 -- key vectors one after another: one more, and their elements
 module _ (tag_key id d : List ℕ) where
-  pub vectors_more : (s : ℕ) (before : List ℕ) {vector vectors made : List ℕ} → length before ≡ n_most
+  pub vectors_more : (s : ℕ) (before : List ℕ) {vector vectors : List ℕ} {place n : ℕ} → length before ≡ n_most → length d ≡ vectors_most → s < tags_most
       → vector ≡ put n_most 0 (key_vector tag_key id s) before → vectors ≡ grid s n_most 0 (key_vector tag_key id) d
-      → made ≡ put n_most (s * n_most) (λ i. at vector (0 + i)) vectors → made ≡ grid (s + 1) n_most 0 (key_vector tag_key id) d
-  vectors_more s before {vector} {vectors} l f g e =
-      e ∙ put_same n_most (s * n_most) _ (key_vector tag_key id s) vectors (λ i h.
-      ap (λ (x : List ℕ). at x (0 + i)) f ∙ put_at n_most 0 (key_vector tag_key id s) before i h (omega arith))
-      ∙ grid_more s n_most 0 (key_vector tag_key id) d g (omega arith)
+      → place ≡ 0 + s * n_most → n ≡ n_most → put_mid place n vectors vector ≡ grid (s + 1) n_most 0 (key_vector tag_key id) d
+  vectors_more s before {vector} {vectors} {place} {n} l ld h f g p e =
+      let size : length vector ≡ n_most = ap length f ∙ length_put n_most 0 (key_vector tag_key id s) before ∙ l in
+      let long : length vectors ≡ length d = ap length g ∙ length_grid s n_most 0 (key_vector tag_key id) d in
+      put_part place n_most n (key_vector tag_key id s) vectors vector e size (omega arith)
+      (λ i r. ap (λ (x : List ℕ). at x i) f ∙ put_front n_most (key_vector tag_key id s) before i r (omega arith))
+      ∙ grid_more s n_most 0 (key_vector tag_key id) d g p
 
   pub vectors_at : (tags count : ℕ) {vectors : List ℕ} → length d ≡ vectors_most → tags ≤ count → count ≤ tags_most
       → vectors ≡ grid count n_most 0 (key_vector tag_key id) d
@@ -61,13 +64,12 @@ unfolding auxiliary
 auxiliary_same n tags v v' rows h = flat_same tags (n - 1) _ _ (λ s i l li. product_keys (n - 2) (rows i) (v s) (v' s) (λ e le. h s e l le))
 
 -- the elements over a buffer that holds the key vectors
-pub auxiliary_of : (n tags : ℕ) (tag_key mask_key id vectors : List ℕ) {hidden out : List ℕ} → hidden ≡ mask_key
+pub auxiliary_of : (n tags : ℕ) (tag_key mask_key id vectors : List ℕ) {out : List ℕ}
     → ((s e : ℕ) → s < tags → e < n_most → at vectors (s * n_most + e) ≡ key_vector tag_key id s e) → n ≤ n_most
-    → out ≡ auxiliary n tags (λ s e. at vectors (s * n_most + e)) (mask_row hidden id)
+    → out ≡ auxiliary n tags (λ s e. at vectors (s * n_most + e)) (mask_row mask_key id)
     → out ≡ auxiliary n tags (key_vector tag_key id) (mask_row mask_key id)
-auxiliary_of n tags tag_key mask_key id vectors {hidden} r f high e =
-    e ∙ auxiliary_same n tags (λ s e. at vectors (s * n_most + e)) (key_vector tag_key id) (mask_row hidden id) (λ s e l le. f s e l (omega arith))
-    ∙ ap (λ (k : List ℕ). auxiliary n tags (key_vector tag_key id) (mask_row k id)) r
+auxiliary_of n tags tag_key mask_key id vectors f high e =
+    e ∙ auxiliary_same n tags (λ s e. at vectors (s * n_most + e)) (key_vector tag_key id) (mask_row mask_key id) (λ s e l le. f s e l (omega arith))
 
 -- ---- the mask
 

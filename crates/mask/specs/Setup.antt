@@ -1,8 +1,7 @@
 -- The operation Setup (SCHEME, Operations).
 use Rattle.std.specs.Prelude.{ℕ, ◌-◌, List, [], ◌∷◌, length}
 use Rattle.lists.specs.Lists.{any_of, any_below}
-use Rattle.answer.specs.declared.Outcome.{Outcome}
-use Rattle.answer.specs.declared.Outcome.TheVariants.{Done}
+use Rattle.answer.specs.Answer.{Outcome, done}
 use Rattle.answer.specs.declared.Refusal.TheVariants.{Size, Length, ZeroKeyVector}
 use Rattle.answer.specs.Refusals.{refuse, afterwards, differs}
 use Rattle.sizes.specs.Sizes.{n_outside, tags_outside}
@@ -23,7 +22,7 @@ setup_answer tag_key mask_key id n tags out =
     ∷ differs (length out) (auxiliary_length n tags)
     ∷ [])) Length
     (refuse (any_below tags (λ s. all_zero (n - 2) (key_vector tag_key id s))) ZeroKeyVector
-    Done))
+    done))
 
 unfoldable pub setup_out : (tag_key mask_key id : List ℕ) (n tags : ℕ) (out : List ℕ) → List ℕ
 setup_out tag_key mask_key id n tags out =

@@ -13,13 +13,16 @@ ghost use Rattle.mask.specs.Masks.{mask_row, auxiliary};
 ghost use Rattle.mask.specs.Setup.{setup_answer, setup_out};
 ghost use Rattle.mask.specs.Laws.{MaskSums};
 
-use answer::{Outcome, Refusal};
-pub use rows::{add_mask, mask_sum};
+use answer::Refusal;
+use field::Tables;
+use keystream::Key;
+pub use rows::{MaskRows, Seed};
+use tag::Id;
 
-// Whether one of the first len elements of key vector s is not zero.
-fn any_element(tag_key: &[u8], id: &[u8], s: usize, len: usize) -> bool
-    requires { (length tag_key.now ≡ key_length) × (length id.now ≡ id_length) × (s < tags_most) }
-    ensures { result ≡ any_below len (λ e. differs (key_vector tag_key.now id.now s e) 0) }
+// Whether one of the first len elements of key vector s is not zero. A loop: each draw moves the stream on, which a closure would hide.
+fn any_element(tag_key: Key, id: Id, s: usize, len: usize) -> bool
+    requires { s < tags_most }
+    ensures { result ≡ any_below len (λ e. differs (key_vector tag_key id s e) 0) }
 {
     let mut vector = tag::key_stream(tag_key, id, s);
     for _ in 0..len {
@@ -27,28 +30,18 @@ fn any_element(tag_key: &[u8], id: &[u8], s: usize, len: usize) -> bool
         if d.byte != 0 {
             return true;
         }
-        let t = d.stream;
-        vector = t;
+        vector = d.stream;
     }
     false
 }
 
 // Whether the key vector of one of the tags is zero in its first n - 2 elements.
-fn any_zero_vector(tag_key: &[u8], id: &[u8], n: usize, tags: usize) -> bool
-    requires { (length tag_key.now ≡ key_length)
-        × (length id.now ≡ id_length)
-        × (n_least ≤ n)
+fn any_zero_vector(tag_key: Key, id: Id, n: usize, tags: usize) -> bool
+    requires { (n_least ≤ n)
         × (tags ≤ tags_most) }
-    ensures { let tag_key = tag_key.now in
-        let id = id.entry.now in
-        result ≡ any_below tags (λ s. all_zero (n - 2) (key_vector tag_key id s)) }
+    ensures { result ≡ any_below tags (λ s. all_zero (n - 2) (key_vector tag_key id s)) }
 {
-    for s in 0..tags {
-        if !any_element(tag_key, id, s, n - 2) {
-            return true;
-        }
-    }
-    false
+    (0..tags).any(|s| !any_element(tag_key, id, s, n - 2))
 }
 
 // The first refusal of Setup.
@@ -59,7 +52,7 @@ fn setup_check(
     n: usize,
     tags: usize,
     out: &[u8],
-) -> Outcome
+) -> Result<(), Refusal>
     ensures { let tag_key = tag_key.now in
         let mask_key = mask_key.now in
         let id = id.entry.now in
@@ -67,70 +60,52 @@ fn setup_check(
         result ≡ setup_answer tag_key mask_key id n tags out }
 {
     if sizes::n_outside(n) | sizes::tags_outside(tags) {
-        return Outcome::Refused(Refusal::Size);
+        return Err(Refusal::Size);
     }
     if (tag_key.len() != sizes::KEY_LENGTH)
         | (mask_key.len() != sizes::KEY_LENGTH)
         | (id.len() != sizes::ID_LENGTH)
         | (out.len() != sizes::auxiliary_length(n, tags))
     {
-        return Outcome::Refused(Refusal::Length);
+        return Err(Refusal::Length);
     }
+    let tag_key = Key::try_from(tag_key).unwrap();
+    let id = Id::try_from(id).unwrap();
     if any_zero_vector(tag_key, id, n, tags) {
-        return Outcome::Refused(Refusal::ZeroKeyVector);
+        return Err(Refusal::ZeroKeyVector);
     }
-    Outcome::Done
+    Ok(())
 }
 
-// The key vectors of the tags, one after another, of N_MOST elements each.
-fn key_vectors(tag_key: &[u8], id: &[u8], tags: usize, vectors: &mut [u8])
-    requires { (length tag_key.now ≡ key_length)
-        × (length id.now ≡ id_length)
-        × (tags ≤ tags_most)
+// The key vectors of the tags, one after another, of N_MOST elements each. By place: of a slice written through `chunks_exact_mut` a proof
+// knows the length alone.
+fn key_vectors(tag_key: Key, id: Id, tags: usize, vectors: &mut [u8])
+    requires { (tags ≤ tags_most)
         × (length vectors.old ≡ vectors_most) }
-    ensures { let tag_key = tag_key.now in
-        let id = id.entry.now in
-        ((s e : ℕ) → s < tags → e < n_most → at vectors.new (s * n_most + e) ≡ key_vector tag_key id s e) }
+    ensures { ((s e : ℕ) → s < tags → e < n_most → at vectors.new (s * n_most + e) ≡ key_vector tag_key id s e) }
 {
     for s in 0..tags {
-        let mut vector = [0u8; sizes::N_MOST];
+        let first = s * sizes::N_MOST;
         tag::key_vector_into(
             tag_key,
             id,
             s,
-            &mut vector,
+            &mut vectors[first..first + sizes::N_MOST],
             sizes::N_MOST / sizes::STREAM_BLOCK_LENGTH,
         );
-        lists::store(&vector, 0, vectors, s * sizes::N_MOST, sizes::N_MOST);
     }
 }
 
-// The auxiliary elements of two keys that were accepted.
-fn setup_into(tag_key: &[u8], mask_key: &[u8], id: &[u8], n: usize, tags: usize, out: &mut [u8])
-    requires { (n_least ≤ n)
-        × (n ≤ n_most)
-        × (tags ≤ tags_most)
-        × (length tag_key.now ≡ key_length)
-        × (length mask_key.now ≡ key_length)
-        × (length id.now ≡ id_length)
-        × (length out.old ≡ auxiliary_length n tags) }
-    ensures { let tag_key = tag_key.now in
-        let id = id.entry.now in
-        let mask_key = mask_key.now in
-        out.new ≡ auxiliary n tags (key_vector tag_key id) (mask_row mask_key id) }
+// The auxiliary elements of a tag key and the mask rows of a mask key, both accepted.
+fn setup_into(tag_key: Key, rows: &MaskRows, tags: usize, out: &mut [u8])
+    requires { (tags ≤ tags_most) × (length out.old ≡ auxiliary_length rows.now.n tags) }
+    ensures { let rows = rows.entry.now in
+        out.new ≡ auxiliary rows.n tags (key_vector tag_key rows.id) (mask_row rows.key rows.id) }
 {
-    let tables = field::tables();
+    let tables = Tables::new();
     let mut vectors = [0u8; sizes::VECTORS_MOST];
-    key_vectors(tag_key, id, tags, &mut vectors);
-    rows::auxiliary_into(
-        &tables,
-        tag::key_array(mask_key),
-        id,
-        &vectors,
-        n,
-        tags,
-        out,
-    );
+    key_vectors(tag_key, rows.id, tags, &mut vectors);
+    rows.auxiliary_into(&tables, &vectors, tags, out);
 }
 
 // The n - 1 auxiliary elements of each tag, of the tag key and the mask key.
@@ -141,7 +116,7 @@ pub fn setup(
     n: usize,
     tags: usize,
     out: &mut [u8],
-) -> Outcome
+) -> Result<(), Refusal>
     ensures answer { let tag_key = tag_key.now in
         let mask_key = mask_key.now in
         let id = id.entry.now in
@@ -152,11 +127,15 @@ pub fn setup(
         let id = id.entry.now in
         out.new ≡ setup_out tag_key mask_key id n tags out.old }
 {
-    let answer = setup_check(tag_key, mask_key, id, n, tags, out);
-    if let Outcome::Done = answer {
-        setup_into(tag_key, mask_key, id, n, tags, out);
-    }
-    answer
+    setup_check(tag_key, mask_key, id, n, tags, out)?;
+    let tag_key = Key::try_from(tag_key).unwrap();
+    let rows = MaskRows {
+        key: Key::try_from(mask_key).unwrap(),
+        id: Id::try_from(id).unwrap(),
+        n,
+    };
+    setup_into(tag_key, &rows, tags, out);
+    Ok(())
 }
 
 // Carries the law of mask sums: without its proof the crate is not proved.

@@ -11,7 +11,7 @@ use borrow.Author.Tests.{eq-eqb, ltb-false}
 use Rattle.lists.specs.Lists.{at, any_of}
 use Rattle.lists.proofs.TabLaws.{length_tab, tab_at}
 use Rattle.lists.proofs.AnyLaws.{none_at, any_below_lem}
-use Rattle.answer.specs.declared.Outcome.TheVariants.{Done}
+use Rattle.answer.specs.Answer.{done}
 use Rattle.answer.specs.Refusals.{afterwards}
 use Rattle.answer.proofs.RefusalLaws.{accepted, same, inside}
 use Rattle.bits.specs.Fields.{BitField, ◌wide◌, widths, bytes_for, field_at}
@@ -138,7 +138,7 @@ module _ (c : Challenge) (R : InRule c) (even : length c.coefficients ≡ length
 
 -- ---- an accepted Challenge
 
-module _ (c : Challenge) (message : List ℕ) (asked : challenge_answer c message ≡ Done) where
+module _ (c : Challenge) (message : List ℕ) (asked : challenge_answer c message ≡ done) where
   pub asked_even : length c.coefficients ≡ length c.places
   unfolding challenge_answer
   asked_even = same _ _ (accepted _ _ _ asked).0

@@ -5,8 +5,7 @@ use mathlib.Core.List.{List, [], ◌∷◌, ◌++◌, append_assoc}
 use native.Mathlib.Omega.{arith}
 use lib.ListN.{length}
 use Rattle.lists.specs.Lists.{at, tab}
-use Rattle.answer.specs.declared.Outcome.{Outcome}
-use Rattle.answer.specs.declared.Outcome.TheVariants.{Done}
+use Rattle.answer.specs.Answer.{Outcome, done}
 use Rattle.answer.proofs.RefusalLaws.{accepted, same}
 use Rattle.bits.specs.Fields.{◌wide◌, with_field}
 use Rattle.bits.proofs.AppendLaws.{Holds, holds_none, holds_more, holds_packed}
@@ -49,7 +48,7 @@ module _ {node : ℕ} {places coefficients : List ℕ} where
 -- ---- what Challenge's answer tells, and what is written then
 
 module _ (c : Challenge) (message : List ℕ) {o : Outcome} (answer : o ≡ challenge_answer c message) where
-  pub challenge_lengths : o ≡ Done
+  pub challenge_lengths : o ≡ done
       → (length c.places ≤ 8) × (length c.coefficients ≡ length c.places) × (length message ≡ challenge_length (length c.places))
   unfolding challenge_answer
   challenge_lengths e =

@@ -4,12 +4,10 @@ use mathlib.Core.Path.{◌≡◌, refl, sym, ap, ◌∙◌}
 use mathlib.Core.List.{List}
 use native.Mathlib.Omega.{arith}
 use lib.ListN.{length, take, drop}
-use Rattle.lists.specs.Lists.{at, tab, put}
-use Rattle.lists.proofs.TabLaws.{is_tab}
-use Rattle.lists.proofs.PutLaws.{length_put, put_front}
+use Rattle.lists.specs.Lists.{at, tab}
+use Rattle.lists.proofs.TabLaws.{length_tab, tab_at, is_tab}
 use Rattle.lists.proofs.AnyLaws.{none_at}
-use Rattle.answer.specs.declared.Outcome.{Outcome}
-use Rattle.answer.specs.declared.Outcome.TheVariants.{Done}
+use Rattle.answer.specs.Answer.{Outcome, done}
 use Rattle.answer.proofs.RefusalLaws.{accepted, same}
 use Rattle.field.specs.Field.{plus}
 use Rattle.vector.specs.Vectors.{added}
@@ -21,7 +19,7 @@ use Rattle.message.specs.Response.{seed_in}
 use Rattle.message.specs.Unmask.{unmask_answer, unmasked}
 
 module _ (n tags : ℕ) (id mask_key response out : List ℕ) {o : Outcome} (answer : o ≡ unmask_answer n tags id mask_key response out) where
-  pub unmask_sizes : o ≡ Done
+  pub unmask_sizes : o ≡ done
       → (n_least ≤ n) × (n ≤ n_most) × (length id ≡ id_length) × (length mask_key ≡ key_length) × (sum_at n 0 ≤ length response) × (length out ≡ n - 2)
   unfolding unmask_answer
   unmask_sizes e =
@@ -37,16 +35,16 @@ unfolding seed_in
 seed_part n k response e = rw e
 
 -- the masked bytes with the mask of the response's seed added are what was masked
-pub mask_off : (n : ℕ) (id key response out : List ℕ) {hidden seed copied w : List ℕ} → length out ≡ n - 2 → hidden ≡ key → seed ≡ seed_in n response
-    → copied ≡ put (n - 2) 0 (λ e. at response (1 + e)) out → w ≡ added (n - 2) 0 (mask n (mask_coefficient hidden seed) (mask_row hidden id)) copied
+pub mask_off : (n : ℕ) (id key response : List ℕ) {seed copied w : List ℕ} → seed ≡ seed_in n response
+    → copied ≡ tab (n - 2) (λ e. at response (1 + e)) → w ≡ added (n - 2) 0 (mask n (mask_coefficient key seed) (mask_row key id)) copied
     → w ≡ tab (n - 2) (unmasked n id key response)
 unfolding unmasked
-mask_off n id key response out {copied = copied} {w = w} l k p q r =
-    let long : length copied ≡ n - 2 = ap length q ∙ length_put (n - 2) 0 _ out ∙ l in
+mask_off n id key response {copied = copied} {w = w} p q r =
+    let long : length copied ≡ n - 2 = ap length q ∙ length_tab (n - 2) _ in
     let off : ℕ → ℕ = mask n (mask_coefficient key (seed_in n response)) (mask_row key id) in
-    let there : w ≡ added (n - 2) 0 off copied = rw (k, p) at r in
+    let there : w ≡ added (n - 2) 0 off copied = rw p at r in
     is_tab (n - 2) _ w (ap length there ∙ length_added (n - 2) 0 off copied ∙ long) (λ e h.
     let z : 0 + e ≡ e = omega arith in
-    let here : at copied (0 + e) ≡ at response (1 + e) = rw (z, q) (put_front (n - 2) _ out e h (omega arith)) in
+    let here : at copied (0 + e) ≡ at response (1 + e) = rw (z, q) (tab_at (n - 2) _ e h) in
     let same : at w e ≡ at (added (n - 2) 0 off copied) (0 + e) = rw (there, z) refl in
     same ∙ added_at (n - 2) 0 off copied e h (omega arith) ∙ ap (λ (x : ℕ). plus x (off e)) here)

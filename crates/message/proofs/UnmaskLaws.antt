@@ -9,7 +9,7 @@ use lib.ListN.{length}
 use borrow.Author.Tests.{le-ltb, eq-eqb}
 use Rattle.lists.specs.Lists.{tab, any_of}
 use Rattle.lists.proofs.TabLaws.{tab_same}
-use Rattle.answer.specs.declared.Outcome.TheVariants.{Done}
+use Rattle.answer.specs.Answer.{done}
 use Rattle.answer.specs.declared.Refusal.TheVariants.{Size, Length, Malformed}
 use Rattle.answer.specs.Refusals.{differs}
 use Rattle.answer.proofs.RefusalLaws.{passed, after_done, not_outside}
@@ -76,10 +76,10 @@ module _ (n tags node : ℕ) (block tag total : ℕ → ℕ) (id mask_key seed :
     unfolding any_of
     sizes_right = rw (not_outside n_least n_most n low high, not_outside 1 tags_most tags some few)
 
-    unmask_accepts : unmask_answer n tags id mask_key r out ≡ Done
+    unmask_accepts : unmask_answer n tags id mask_key r out ≡ done
     unfolding unmask_answer
     unmask_accepts = passed Size _ sizes_right ∙ passed Length _ lengths_right ∙ passed Malformed _ head_right
 
-    pub unmask_gives : (unmask_answer n tags id mask_key r out ≡ Done) × (unmask_out n tags id mask_key r out ≡ tab (n - 2) block)
+    pub unmask_gives : (unmask_answer n tags id mask_key r out ≡ done) × (unmask_out n tags id mask_key r out ≡ tab (n - 2) block)
     unfolding unmask_out
     unmask_gives = (unmask_accepts, after_done _ _ unmask_accepts ∙ tab_same (n - 2) _ _ unmask_element)

@@ -1,8 +1,7 @@
 -- The challenge, its bytes both ways (SCHEME, Messages), and the operation Challenge.
 use Rattle.std.specs.Prelude.{ℕ, zero, suc, ◌+◌, ◌-◌, ◌*◌, Bool, List, [], ◌∷◌, length, ltb, leb}
-use Rattle.lists.specs.Lists.{at, tab, any_of, any_below}
-use Rattle.answer.specs.declared.Outcome.{Outcome}
-use Rattle.answer.specs.declared.Outcome.TheVariants.{Done}
+use Rattle.lists.specs.Lists.{pick, at, tab, any_of, any_below}
+use Rattle.answer.specs.Answer.{Answer, Outcome, done, Ok, Err}
 use Rattle.answer.specs.declared.Refusal.TheVariants.{Length, Malformed}
 use Rattle.answer.specs.Refusals.{refuse, afterwards, differs, outside}
 use Rattle.sizes.specs.declared.Sizes.{Sizes}
@@ -73,6 +72,10 @@ malformed_for c message =
 abbrev pub malformed_challenge : (message : List ℕ) → Bool
 malformed_challenge message = malformed_for (challenge_of message) message
 
+-- what is read of a message
+unfoldable pub challenge_read : (message : List ℕ) → Answer Challenge
+challenge_read message = pick (malformed_challenge message) (Err Malformed) (Ok (challenge_of message))
+
 -- it names a node or a place that these sizes do not have
 abbrev pub not_there : (z : Sizes) (c : Challenge) → Bool
 not_there z c = any_of (leb z.nodes c.node ∷ any_below (length c.places) (λ j. leb z.places (at c.places j)) ∷ [])
@@ -84,7 +87,7 @@ challenge_answer c message =
     refuse (differs (length c.coefficients) (length c.places)) Length
     (refuse (out_of_rule c.node c.places) Malformed
     (refuse (differs (length message) (challenge_length (length c.places))) Length
-    Done))
+    done))
 
 unfoldable pub challenge_out : (c : Challenge) (message : List ℕ) → List ℕ
 challenge_out c message = afterwards (challenge_answer c message) message (challenge_bytes c)

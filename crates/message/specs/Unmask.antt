@@ -1,8 +1,7 @@
 -- The operation Unmask (SCHEME, Operations). The number of tags is in the response's length alone.
 use Rattle.std.specs.Prelude.{ℕ, ◌-◌, List, [], ◌∷◌, length, ltb}
 use Rattle.lists.specs.Lists.{tab, any_of}
-use Rattle.answer.specs.declared.Outcome.{Outcome}
-use Rattle.answer.specs.declared.Outcome.TheVariants.{Done}
+use Rattle.answer.specs.Answer.{Outcome, done}
 use Rattle.answer.specs.declared.Refusal.TheVariants.{Size, Length, Malformed}
 use Rattle.answer.specs.Refusals.{refuse, afterwards, differs}
 use Rattle.field.specs.Field.{plus}
@@ -25,7 +24,7 @@ unmask_answer n tags id mask_key response out =
     ∷ differs (length out) (n - 2)
     ∷ [])) Length
     (refuse (any_of (differs (field_at response 0 4) 2 ∷ ltb 5 (field_at response 4 3) ∷ differs (field_at response 7 1) 0 ∷ [])) Malformed
-    Done))
+    done))
 
 -- the mask for the response's own seed is taken off again; all that is read here stands before the mask sums
 unfoldable pub unmasked : (n : ℕ) (id mask_key response : List ℕ) (e : ℕ) → ℕ

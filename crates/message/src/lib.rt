@@ -1,15 +1,15 @@
 // The two messages (NC-Audit): challenge and response, their bytes both ways; Challenge and Unmask.
 #![tactic(auto)]
 
+mod asked;
 mod asking;
 mod response;
 mod unmasking;
 
 ghost use Rattle.message.specs.Laws.{Unmasks};
 
-pub use asking::{
-    add_named, challenge, coefficient_in, count_in, malformed, node_in, not_there, place_in,
-};
+pub use asked::ChallengeMessage;
+pub use asking::challenge;
 pub use response::head_byte;
 pub use unmasking::unmask;
 

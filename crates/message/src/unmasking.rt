@@ -1,10 +1,13 @@
 // Unmask: the masked bytes of a response without their mask.
 ghost use Rattle.std.specs.Prelude.{◌≡◌, ◌-◌, ◌≤◌, length};
 ghost use Rattle.lists.specs.Lists.{tab};
-ghost use Rattle.sizes.specs.Lengths.{id_length, key_length, n_least, n_most, sum_at};
+ghost use Rattle.sizes.specs.Lengths.{n_least, n_most, sum_at};
 ghost use Rattle.message.specs.Unmask.{unmask_answer, unmasked, unmask_out};
 
-use answer::{Outcome, Refusal};
+use answer::Refusal;
+use keystream::Key;
+use mask::{MaskRows, Seed};
+use tag::Id;
 
 // The first refusal of Unmask.
 fn unmask_check(
@@ -14,7 +17,7 @@ fn unmask_check(
     mask_key: &[u8],
     response: &[u8],
     out: &[u8],
-) -> Outcome
+) -> Result<(), Refusal>
     ensures { let id = id.entry.now in
         let mask_key = mask_key.now in
         let response = response.entry.now in
@@ -22,46 +25,35 @@ fn unmask_check(
         result ≡ unmask_answer n tags id mask_key response out }
 {
     if sizes::n_outside(n) | sizes::tags_outside(tags) {
-        return Outcome::Refused(Refusal::Size);
+        return Err(Refusal::Size);
     }
     if (id.len() != sizes::ID_LENGTH)
         | (mask_key.len() != sizes::KEY_LENGTH)
         | (response.len() != sizes::response_length(n, tags))
         | (out.len() != n - 2)
     {
-        return Outcome::Refused(Refusal::Length);
+        return Err(Refusal::Length);
     }
     let kind = bits::read_field(response, 0, 4);
     let node = bits::read_field(response, 4, 3);
     let spare = bits::read_field(response, 7, 1);
     if (kind != 2) | (5 < node) | (spare != 0) {
-        return Outcome::Refused(Refusal::Malformed);
+        return Err(Refusal::Malformed);
     }
-    Outcome::Done
+    Ok(())
 }
 
 // The masked bytes, and then the mask of the response's seed taken off them.
-fn unmask_into(n: usize, id: &[u8], mask_key: &[u8], response: &[u8], out: &mut [u8])
-    requires { (n_least ≤ n)
-        × (n ≤ n_most)
-        × (length id.now ≡ id_length)
-        × (length mask_key.now ≡ key_length)
-        × (sum_at n 0 ≤ length response.now)
-        × (length out.old ≡ n - 2) }
-    ensures { let id = id.entry.now in
-        let mask_key = mask_key.now in
-        let response = response.entry.now in
-        out.new ≡ tab (n - 2) (unmasked n id mask_key response) }
+fn unmask_into(rows: &MaskRows, response: &[u8], out: &mut [u8])
+    requires { (sum_at rows.now.n 0 ≤ length response.now) × (length out.old ≡ rows.now.n - 2) }
+    ensures { let response = response.entry.now in
+        let rows = rows.entry.now in
+        out.new ≡ tab (rows.n - 2) (unmasked rows.n rows.id rows.key response) }
 {
-    lists::store(response, 1, out, 0, n - 2);
-    mask::add_mask(
-        tag::key_array(mask_key),
-        id,
-        &response[n - 1..n + sizes::SUM_PAST_N],
-        n,
-        out,
-        0,
-    );
+    let n = rows.n;
+    out.copy_from_slice(&response[1..n - 1]);
+    let seed = Seed::try_from(&response[n - 1..n + sizes::SUM_PAST_N]).unwrap();
+    rows.add_mask(seed, out);
 }
 
 // The n - 2 bytes that a response hides.
@@ -72,7 +64,7 @@ pub fn unmask(
     mask_key: &[u8],
     response: &[u8],
     out: &mut [u8],
-) -> Outcome
+) -> Result<(), Refusal>
     ensures answer { let id = id.entry.now in
         let mask_key = mask_key.now in
         let response = response.entry.now in
@@ -83,9 +75,12 @@ pub fn unmask(
         let response = response.entry.now in
         out.new ≡ unmask_out n tags id mask_key response out.old }
 {
-    let answer = unmask_check(n, tags, id, mask_key, response, out);
-    if let Outcome::Done = answer {
-        unmask_into(n, id, mask_key, response, out);
-    }
-    answer
+    unmask_check(n, tags, id, mask_key, response, out)?;
+    let rows = MaskRows {
+        key: Key::try_from(mask_key).unwrap(),
+        id: Id::try_from(id).unwrap(),
+        n,
+    };
+    unmask_into(&rows, response, out);
+    Ok(())
 }

@@ -6,8 +6,7 @@ use mathlib.Core.Bool.{false}
 use mathlib.Core.List.{List}
 use lib.ListN.{length}
 use Rattle.lists.proofs.AnyLaws.{none_at}
-use Rattle.answer.specs.declared.Outcome.{Outcome}
-use Rattle.answer.specs.declared.Outcome.TheVariants.{Refused}
+use Rattle.answer.specs.Answer.{Outcome, Err}
 use Rattle.answer.specs.declared.Refusal.{Refusal}
 use Rattle.answer.specs.Refusals.{Passed}
 use Rattle.answer.proofs.RefusalLaws.{accepted, passed, same, inside}
@@ -59,6 +58,6 @@ module _ (s helpers : List ℕ) (q : ℕ) (gammas rows thetas : List ℕ) where
   plannable read ok = rw read (accepted_plan ok)
 
   -- a refusal of the check is Plan's
-  pub refused_before : {o : Outcome} {r : Refusal} → o ≡ plan_before s helpers q gammas rows thetas → o ≡ Refused r → PlanAllows s helpers q gammas rows thetas o thetas
+  pub refused_before : {o : Outcome} {r : Refusal} → o ≡ plan_before s helpers q gammas rows thetas → o ≡ Err r → PlanAllows s helpers q gammas rows thetas o thetas
   refused_before {r = r} is refusal =
       subst (λ (o : Outcome). PlanAllows s helpers q gammas rows thetas o thetas) (sym refusal) (refl, inl (sym is ∙ refusal))

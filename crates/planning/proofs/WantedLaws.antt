@@ -3,7 +3,7 @@ use Prim.Native.Nat.{ℕ, ◌+◌, ◌*◌, ◌<◌, ◌≤◌}
 use mathlib.Core.Path.{◌≡◌, ap, ◌∙◌}
 use mathlib.Core.Bool.{true}
 use mathlib.Core.List.{List}
-use native.Mathlib.Nat.{mul-le-mul, mul-le-mul_right}
+use native.Mathlib.Nat.{mul-le-mul_right}
 use native.Mathlib.Omega.{arith}
 use borrow.Author.Tests.{eqb-true, not-true, not-false}
 use Rattle.lists.specs.Lists.{at}
@@ -20,9 +20,6 @@ use Rattle.sizes.specs.declared.Sizes.{Sizes}
 use Rattle.archive.specs.Plan.{wanted_row}
 
 module _ (z : Sizes) (k : ℕ) where
-  pub wanted_low : z.m ≤ 16 → z.places ≤ 8 → k < z.places → k * z.m ≤ 128
-  wanted_low width few l = mul-le-mul {n₂ = 8} {m₂ = 16} (omega arith) width
-
   pub wanted_fits : {n : ℕ} → k < z.places → n ≡ z.places * z.m → k * z.m + z.m ≤ n
   wanted_fits l long = omega (arith, mul-le-mul_right z.m l)
 

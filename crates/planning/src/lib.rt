@@ -8,10 +8,11 @@ ghost use Rattle.std.specs.Prelude.{◌≡◌};
 ghost use Rattle.answer.specs.Refusals.{Passed};
 ghost use Rattle.archive.specs.Plan.{plan_before, PlanAllows};
 
-use answer::{Outcome, Refusal};
+use answer::Refusal;
 use choice::Rows;
+use field::Tables;
 use rows::repair_rows;
-use thetas::{reaches, write_thetas};
+use thetas::Wanted;
 
 // The first refusal of Plan before 12.
 fn plan_check(
@@ -21,7 +22,7 @@ fn plan_check(
     gammas: &[u8],
     rows: &[u8],
     thetas: &[u8],
-) -> Outcome
+) -> Result<(), Refusal>
     ensures { let archive = archive.entry.now in
         let helpers = helpers.entry.now in
         let gammas = gammas.entry.now in
@@ -30,24 +31,24 @@ fn plan_check(
         result ≡ plan_before archive helpers q gammas rows thetas }
 {
     if archive::bad_archive(archive) {
-        return Outcome::Refused(Refusal::BadArchive);
+        return Err(Refusal::BadArchive);
     }
     let z = archive::sizes_in(archive);
     let p = helpers.len();
     if answer::outside(1, sizes::HELPERS_MOST, p) | answer::outside(1, sizes::SENT_MOST, q) {
-        return Outcome::Refused(Refusal::Size);
+        return Err(Refusal::Size);
     }
     let count = p * q * z.places;
     if (gammas.len() != count) | (rows.len() != z.places * z.m) | (thetas.len() != count) {
-        return Outcome::Refused(Refusal::Length);
+        return Err(Refusal::Length);
     }
     if coding::any_missing(helpers, z.nodes) {
-        return Outcome::Refused(Refusal::NoSuchPlace);
+        return Err(Refusal::NoSuchPlace);
     }
     if coding::any_helper_empty(archive, z, helpers) {
-        return Outcome::Refused(Refusal::PlaceEmpty);
+        return Err(Refusal::PlaceEmpty);
     }
-    Outcome::Done
+    Ok(())
 }
 
 // The thetas, where the repair rows reach every wanted row. Elimination on the columns of the repair rows taken gives a combination for
@@ -59,7 +60,7 @@ fn plan_thetas(
     gammas: &[u8],
     rows: &[u8],
     thetas: &mut [u8],
-) -> Outcome
+) -> Result<(), Refusal>
     requires { Passed (plan_before archive.now helpers.now q gammas.now rows.now thetas.old) }
     ensures { let archive = archive.entry.now in
         let helpers = helpers.entry.now in
@@ -67,35 +68,28 @@ fn plan_thetas(
         let rows = rows.entry.now in
         PlanAllows archive helpers q gammas rows thetas.old result thetas.new }
 {
-    let tables = field::tables();
+    let tables = Tables::new();
     let z = archive::sizes_in(archive);
+    let wanted = Wanted { z, rows };
     let count = helpers.len() * q;
     let sent = repair_rows(&tables, archive, z, helpers, q, gammas);
     let all = Rows {
+        bytes: &sent,
         start: 0,
         stride: z.m,
         count,
         m: z.m,
     };
-    let c = choice::choose(&sent, all, [1u8; 48]);
+    let c = all.choose([true; 48]);
     let numbers = c.numbers;
-    let taken = choice::rows_of(&sent, all, numbers, c.count);
-    let mut rank = 0;
-    let combinations = linear::reduce(linear::turned(taken), z.m, c.count, &mut rank);
-    if !reaches(&tables, z, combinations, c.count, rows) {
-        return Outcome::Refused(Refusal::NoPlan);
+    let taken = all.rows_of(numbers, c.count);
+    let reduced = linear::reduce(linear::turned(taken), z.m, c.count);
+    let combinations = reduced.combinations;
+    if !wanted.reached(&tables, combinations, c.count) {
+        return Err(Refusal::NoPlan);
     }
-    write_thetas(
-        &tables,
-        z,
-        combinations,
-        numbers,
-        c.count,
-        rows,
-        count,
-        thetas,
-    );
-    Outcome::Done
+    wanted.write_thetas(&tables, combinations, numbers, c.count, count, thetas);
+    Ok(())
 }
 
 // The thetas that Repair, with these helpers and gammas, takes to give the places of a node (the scheme: box) the wanted rows.
@@ -106,16 +100,13 @@ pub fn plan(
     gammas: &[u8],
     rows: &[u8],
     thetas: &mut [u8],
-) -> Outcome
+) -> Result<(), Refusal>
     ensures { let archive = archive.entry.now in
         let helpers = helpers.entry.now in
         let gammas = gammas.entry.now in
         let rows = rows.entry.now in
         PlanAllows archive helpers q gammas rows thetas.old result thetas.new }
 {
-    let answer = plan_check(archive, helpers, q, gammas, rows, thetas);
-    if let Outcome::Done = answer {
-        return plan_thetas(archive, helpers, q, gammas, rows, thetas);
-    }
-    answer
+    plan_check(archive, helpers, q, gammas, rows, thetas)?;
+    plan_thetas(archive, helpers, q, gammas, rows, thetas)
 }

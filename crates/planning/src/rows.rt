@@ -1,7 +1,6 @@
 // The repair rows: those at the ends of the blocks that helpers send.
 ghost use Rattle.std.specs.Prelude.{◌≡◌, false, ℕ, ◌+◌, ◌*◌, ◌<◌, ◌≤◌, length};
 ghost use Rattle.lists.specs.Lists.{at};
-ghost use Rattle.field.specs.PrivateTables.{FieldTables};
 ghost use Rattle.sizes.specs.Sizes.{sizes_outside};
 ghost use Rattle.sizes.specs.Lengths.{archive_length, place_count};
 ghost use Rattle.vector.specs.Vectors.{mixed, added};
@@ -15,31 +14,20 @@ use sizes::Sizes;
 // The bytes of all repair rows at the greatest sizes.
 const ROWS_MOST: usize = sizes::HELPERS_MOST * sizes::SENT_MOST * sizes::M_MOST;
 
-// To the m bytes from `from` on, the rows of the places from number `first` on are added, those of one node, each times its gamma.
-fn add_rows(
-    tables: &Tables,
-    archive: &[u8],
-    z: Sizes,
-    first: usize,
-    gammas: &[u8],
-    start: usize,
-    out: &mut [u8],
-    from: usize,
-)
-    requires { FieldTables tables.now
-        × (sizes_outside z ≡ false)
+// To the m bytes of out, the rows of the places from number `first` on are added, each times its gamma.
+fn add_rows(tables: &Tables, archive: &[u8], z: Sizes, first: usize, gammas: &[u8], out: &mut [u8])
+    requires { (sizes_outside z ≡ false)
         × (length archive.now ≡ archive_length z)
-        × (first + z.places ≤ place_count z)
-        × (start + z.places ≤ length gammas.now)
-        × (from + z.m ≤ length out.old) }
+        × (first + length gammas.now ≤ place_count z)
+        × (length out.old ≡ z.m) }
     ensures { let archive = archive.entry.now in
         let gammas = gammas.entry.now in
         let row : ℕ → ℕ → ℕ = λ l. row_in z archive (first + l) in
-        out.new ≡ added z.m from (mixed z.places (λ l. at gammas (start + l)) row) out.old }
+        out.new ≡ added z.m 0 (mixed (length gammas) (at gammas) row) out.old }
 {
-    for l in 0..z.places {
-        let row = sizes::record_start(z, first + l) + z.n;
-        vector::add_multiple(tables, gammas[start + l], archive, row, out, from, z.m);
+    for (l, gamma) in gammas.iter().enumerate() {
+        let start = sizes::record_start(z, first + l) + z.n;
+        vector::add_multiple(tables, *gamma, &archive[start..start + z.m], out);
     }
 }
 
@@ -52,8 +40,7 @@ pub fn repair_rows(
     q: usize,
     gammas: &[u8],
 ) -> [u8; ROWS_MOST]
-    requires { FieldTables tables.now
-        × (sizes_outside z ≡ false)
+    requires { (sizes_outside z ≡ false)
         × (length archive.now ≡ archive_length z)
         × (1 ≤ q)
         × (length helpers.now * q ≤ 40)
@@ -65,18 +52,18 @@ pub fn repair_rows(
         ((t i : ℕ) → t < length helpers * q → i < z.m → at result (t * z.m + i) ≡ repair_row z archive helpers q gammas t i) }
 {
     let mut out = [0u8; ROWS_MOST];
+    // by index: after `chunks_exact_mut` a proof knows the length of out alone
     for t in 0..helpers.len() * q {
-        let first = lists::widen(helpers[t / q]) * z.places;
-        lists::zero(&mut out, t * z.m, z.m);
+        let first = usize::from(helpers[t / q]) * z.places;
+        let from = t * z.m;
+        let coefficients = t * z.places;
         add_rows(
             tables,
             archive,
             z,
             first,
-            gammas,
-            t * z.places,
-            &mut out,
-            t * z.m,
+            &gammas[coefficients..coefficients + z.places],
+            &mut out[from..from + z.m],
         );
     }
     out

@@ -13,7 +13,7 @@ use Rattle.lists.specs.Lists.{pick, at, any_of}
 use Rattle.lists.proofs.TabLaws.{order}
 use Rattle.lists.proofs.PutLaws.{length_flat, flat_at}
 use Rattle.lists.proofs.AnyLaws.{any_none}
-use Rattle.answer.specs.declared.Outcome.TheVariants.{Done}
+use Rattle.answer.specs.Answer.{Answer, done, Ok, Err}
 use Rattle.answer.specs.declared.Refusal.TheVariants.{ProvesNothing}
 use Rattle.answer.specs.Refusals.{refuse, afterwards}
 use Rattle.field.specs.Field.{plus}
@@ -28,7 +28,8 @@ use Rattle.mask.proofs.MaskLaws.{length_auxiliary, mask_sum_lem}
 use Rattle.message.proofs.ResponseLaws.{response_length_lem, response_first, response_sum, response_tag, response_data, response_same}
 use Rattle.message.specs.Challenge.{Challenge, challenge_of, malformed_challenge}
 use Rattle.audit.specs.Verdict.{verdict_for, appended, accepts, judgement, verdict_of, named_row as given_row}
-use Rattle.audit.specs.declared.Judgement.TheVariants.{Accepted, Rejected, Refused}
+use Rattle.audit.specs.declared.Judgement.{Judgement}
+use Rattle.audit.specs.declared.Judgement.TheVariants.{Accepted, Rejected}
 use Rattle.message.proofs.ChallengeLaws.{in_rule, challenge_back, well_formed, asked_even, asked_rule, asked_bytes}
 use Rattle.audit.proofs.VerdictLaws.{accepts_all, altered}
 use Rattle.archive.specs.Layout.{filled_in}
@@ -90,7 +91,7 @@ module _ (g : Given) (F : Fit (setting g)) (K : Keys g) (t : Table) (h : Honest 
   elements_length : length (given_auxiliary g) ≡ auxiliary_length n tags
   elements_length = ap length K.auxiliary_are ∙ length_auxiliary n tags _ _
 
-  proves : prove_answer A g.mask_key (given_auxiliary g) h.seed (message g t A h) h.out ≡ Done
+  proves : prove_answer A g.mask_key (given_auxiliary g) h.seed (message g t A h) h.out ≡ done
   unfolding prove_answer refuse prove_for any_of
   proves =
       rw (
@@ -197,7 +198,7 @@ module _ (g : Given) (F : Fit (setting g)) (K : Keys g) (t : Table) (h : Honest 
 
   -- a response of Prove's length and first byte is refused for nothing else
   heard : {z : Bool} → nothing ≡ z → (response : List ℕ) → length response ≡ response_length n tags → at response 0 ≡ at (response_head h.c.node) 0
-      → says g t A h response ≡ pick z (Refused ProvesNothing) (pick (judged response) Accepted Rejected)
+      → says g t A h response ≡ pick z (Err ProvesNothing) (pick (judged response) (Ok Accepted) (Ok Rejected))
   unfolding verdict_of verdict_for refuse any_of judgement
   heard found response l b =
       rw (
@@ -227,7 +228,7 @@ module _ (g : Given) (F : Fit (setting g)) (K : Keys g) (t : Table) (h : Honest 
       record {
         proves = proves;
         sends = sends;
-        accepts = λ told. rw sends (heard (telling_is told) (expected g t A h) expected_length expected_first ∙ ap (λ (x : Bool). pick x Accepted Rejected) accepted_it);
+        accepts = λ told. rw sends (heard (telling_is told) (expected g t A h) expected_length expected_first ∙ ap (λ (x : Bool). pick x (Ok Accepted) (Ok Rejected)) accepted_it);
       }
 
   sent_length : length (sent g t A h) ≡ response_length n tags
@@ -237,22 +238,22 @@ module _ (g : Given) (F : Fit (setting g)) (K : Keys g) (t : Table) (h : Honest 
   sent_first = ap (λ (r : List ℕ). at r 0) sends ∙ expected_first
 
   pub unproved_holds : Silent g t A h → (other : List ℕ) → length other ≡ length (sent g t A h) → at other 0 ≡ at (sent g t A h) 0
-      → says g t A h other ≡ Refused ProvesNothing
+      → says g t A h other ≡ Err ProvesNothing
   unproved_holds zero other l b = heard (silent_is zero) other (l ∙ sent_length) (b ∙ sent_first)
 
   pub altered_holds : Telling g t A h → (other : List ℕ) → length other ≡ length (sent g t A h) → at other 0 ≡ at (sent g t A h) 0
-      → ((says g t A h other ≡ Accepted) ↔ ChangesAddUp g t A h other) × ((says g t A h other ≡ Rejected) ↔ (¬ ChangesAddUp g t A h other))
+      → ((says g t A h other ≡ Ok Accepted) ↔ ChangesAddUp g t A h other) × ((says g t A h other ≡ Ok Rejected) ↔ (¬ ChangesAddUp g t A h other))
   altered_holds told other l b =
       let w = altered g.z (key_vector g.tag_key g.id) (given_row g.z (node_rows g t A h) h.c) other (sent g t A h) (ap judged sends ∙ accepted_it) in
       rw (heard (telling_is told) other (l ∙ sent_length) (b ∙ sent_first)) (
-        (λ e. w.0.0 (is_accepted _ e), λ d. ap (λ (x : Bool). pick x Accepted Rejected) (w.0.1 d)),
-        (λ e. w.1.0 (is_rejected _ e), λ d. ap (λ (x : Bool). pick x Accepted Rejected) (w.1.1 d)),
+        (λ e. w.0.0 (is_accepted _ e), λ d. ap (λ (x : Bool). pick x (Ok Accepted) (Ok Rejected)) (w.0.1 d)),
+        (λ e. w.1.0 (is_rejected _ e), λ d. ap (λ (x : Bool). pick x (Ok Accepted) (Ok Rejected)) (w.1.1 d)),
       )
     where
-      is_accepted : (x : Bool) → pick x Accepted Rejected ≡ Accepted → x ≡ true
+      is_accepted : (x : Bool) → pick {A = Answer Judgement} x (Ok Accepted) (Ok Rejected) ≡ Ok Accepted → x ≡ true
       is_accepted true e = refl
       is_accepted false e = cc
 
-      is_rejected : (x : Bool) → pick x Accepted Rejected ≡ Rejected → x ≡ false
+      is_rejected : (x : Bool) → pick {A = Answer Judgement} x (Ok Accepted) (Ok Rejected) ≡ Ok Rejected → x ≡ false
       is_rejected true e = cc
       is_rejected false e = refl

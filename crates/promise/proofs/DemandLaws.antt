@@ -8,7 +8,7 @@ use Rattle.lists.specs.Lists.{tab}
 use Rattle.lists.proofs.TabLaws.{length_tab, tab_at}
 use Rattle.lists.proofs.AnyLaws.{none_at}
 use Rattle.answer.specs.Refusals.{afterwards}
-use Rattle.answer.specs.declared.Outcome.TheVariants.{Done}
+use Rattle.answer.specs.Answer.{done}
 use Rattle.answer.proofs.RefusalLaws.{accepted, same, after_done}
 use Rattle.mask.specs.Setup.{setup_answer, setup_out}
 use Rattle.sizes.specs.Lengths.{place_number, block_length}
@@ -44,7 +44,7 @@ keys g =
     }
 
 -- whatever Open was lent
-open_is : (g : Given) (lent : List ℕ) → open_answer g.layout g.z g.id lent ≡ Done
+open_is : (g : Given) (lent : List ℕ) → open_answer g.layout g.z g.id lent ≡ done
     → open_out g.layout g.z g.id lent ≡ image (setting g) all_empty
 unfolding open_out
 open_is g lent done = after_done _ _ done ∙ opened_is (setting g)
@@ -89,7 +89,7 @@ on_image g calls t fine answers =
     }
 
 -- calls on an archive as Open writes it, whatever it was lent: the table's answers, and the image of the table after them
-pub from_new : (g : Given) (lent : List ℕ) → open_answer g.layout g.z g.id lent ≡ Done → (calls : List Call) → Admitted g all_empty calls
+pub from_new : (g : Given) (lent : List ℕ) → open_answer g.layout g.z g.id lent ≡ done → (calls : List Call) → Admitted g all_empty calls
     → (archive_answers (open_out g.layout g.z g.id lent) calls ≡ table_answers g.z all_empty calls)
     × (archive_run (open_out g.layout g.z g.id lent) calls ≡ image (setting g) (table_run g.z all_empty calls))
 from_new g lent done calls a = rw (open_is g lent done) (runs g (fits g) all_empty calls a)

@@ -11,7 +11,7 @@ use Rattle.lists.specs.Lists.{over, any_of}
 use Rattle.lists.proofs.TabLaws.{order}
 use Rattle.lists.proofs.OverLaws.{over_within, over_below, over_above}
 use Rattle.lists.proofs.AnyLaws.{none_at}
-use Rattle.answer.specs.declared.Outcome.TheVariants.{Done}
+use Rattle.answer.specs.Answer.{done}
 use Rattle.answer.specs.Refusals.{refuse}
 use Rattle.answer.proofs.RefusalLaws.{accepted, same, after_done}
 use Rattle.sizes.specs.declared.Sizes.{Sizes}
@@ -53,7 +53,7 @@ pub lent_length : (g : Given) → length g.lent ≡ archive_length g.z
 unfolding open_answer
 lent_length g = same _ _ (none_at _ 1 (accepted _ _ _ (accepted _ _ _ g.open_done).1).0)
 
-pub reopens : (g : Given) (lent : List ℕ) → length lent ≡ archive_length g.z → open_answer g.layout g.z g.id lent ≡ Done
+pub reopens : (g : Given) (lent : List ℕ) → length lent ≡ archive_length g.z → open_answer g.layout g.z g.id lent ≡ done
 unfolding open_answer
 reopens g lent long = rw (long ∙ sym (lent_length g)) g.open_done
 
@@ -98,7 +98,7 @@ module _ (g : Given) (t : Table) (fine : AllFine g.z t) where
       row_fine : Fine z (filled row)
       row_fine = subst (Fine z) held (fine node place)
 
-      call_done : table_answer z u call ≡ Done
+      call_done : table_answer z u call ≡ done
       unfolding answer_for refuse any_of
       call_done =
           rw (

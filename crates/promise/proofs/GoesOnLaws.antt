@@ -7,8 +7,7 @@ use lib.ListN.{length}
 use borrow.Author.Tests.{lt-leb}
 use Rattle.lists.specs.Lists.{pick, flat}
 use Rattle.lists.proofs.PutLaws.{flat_same}
-use Rattle.answer.specs.declared.Outcome.{Outcome}
-use Rattle.answer.specs.declared.Outcome.TheVariants.{Done, Refused}
+use Rattle.answer.specs.Answer.{Outcome, done, Ok, Err}
 use Rattle.answer.specs.Refusals.{afterwards}
 use Rattle.answer.proofs.RefusalLaws.{passed, after_done, differs_same}
 use Rattle.sizes.specs.declared.Sizes.{Sizes}
@@ -71,7 +70,7 @@ module _ (g : Given) where
         )
         (shown (t node place) i)
 
-    rows_done : (out : List ℕ) → length out ≡ z.places * z.m → rows_answer s node out ≡ Done
+    rows_done : (out : List ℕ) → length out ≡ z.places * z.m → rows_answer s node out ≡ done
     unfolding rows_answer
     rows_done out long =
         passed _ _ (image_good o (fits g) t)
@@ -89,8 +88,8 @@ module _ (g : Given) where
   gathered_fine t u node ft fu = go (table_gather z t node)
     where
       go : (a : Outcome) → AllFine z (afterwards a t (written node 0 z.places (u node) t))
-      go Done = written_fine z node 0 z.places (u node) t (fu node) ft
-      go (Refused r) = ft
+      go (Ok _) = written_fine z node 0 z.places (u node) t (fu node) ft
+      go (Err r) = ft
 
   image_goes_on : (t : Table) → AllFine z t → GoesOn g t (image o t)
   unfolding sizes_answer

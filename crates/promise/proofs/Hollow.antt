@@ -9,7 +9,7 @@ use lib.ListN.{length}
 use Rattle.lists.specs.Lists.{at, tab, flat, over, put, grid, any_of, any_below, how_many, filtered}
 use Rattle.lists.proofs.TabLaws.{length_tab}
 use Rattle.lists.proofs.PutLaws.{put_above}
-use Rattle.answer.specs.declared.Outcome.TheVariants.{Done, Refused as RefusedOutcome}
+use Rattle.answer.specs.Answer.{done, Ok, Err}
 use Rattle.answer.specs.declared.Refusal.TheVariants.{Length, BadArchive, PlaceFilled, Unreadable, ZeroKeyVector, Malformed, ProvesNothing}
 use Rattle.answer.specs.Refusals.{refuse, afterwards, outside}
 use Rattle.field.specs.Field.{sum, modulus, xtime, xtimes, times}
@@ -22,7 +22,7 @@ use Rattle.mask.specs.Setup.{setup_answer}
 use Rattle.mask.specs.Masks.{F2, mask_row, auxiliary, mask, mask_sum}
 use Rattle.message.specs.Response.{response_bytes, data_in}
 use Rattle.message.specs.Challenge.{items, challenge_bytes, out_of_rule, challenge_in, challenge_of, malformed_for}
-use Rattle.audit.specs.declared.Judgement.TheVariants.{Rejected, Refused as RefusedJudgement}
+use Rattle.audit.specs.declared.Judgement.TheVariants.{Rejected}
 use Rattle.audit.specs.Verdict.{named_row, appended, fails, accepts, verdict_for, judgement, verdict_of}
 use Rattle.sizes.specs.Lengths.{record_length, place_count, place_number}
 use Rattle.sizes.specs.Sizes.{sizes_outside}
@@ -34,7 +34,6 @@ use Rattle.archive.specs.Read.{row_in, Blind, ReadAllows}
 use Rattle.archive.specs.Inventory.{inventory_before, inventory_answer, inventory_out}
 use Rattle.archive.specs.Gather.{other_archive, gather_answer, gather_after}
 use Rattle.archive.specs.Told.{stored_row, rows_answer, rows_out}
-use Rattle.answer.specs.declared.Counted.TheVariants.{Count, Refused}
 use Rattle.answer.proofs.RefusalLaws.{counted_done}
 use Rattle.promise.specs.Table.{Place, empty, filled, Table, all_empty, is_filled, numbered, written, table_run}
 use Rattle.promise.specs.Image.{place_record}
@@ -76,22 +75,22 @@ three_agree_lem = (refl, refl, refl)
 
 -- ---- combined rows that are zero
 
-zero_rows : (of_zeros 0x24 (0x02 ∷ 0x03 ∷ 0x02 ∷ 0x03 ∷ []) (0x05 ∷ 0x05 ∷ []) ≡ RefusedJudgement ProvesNothing)
-    × (of_zeros 0x24 (0x02 ∷ 0x03 ∷ 0x04 ∷ 0x06 ∷ []) (0x02 ∷ 0x01 ∷ []) ≡ RefusedJudgement ProvesNothing)
-    × (of_zeros 0x24 (0x02 ∷ 0x03 ∷ 0x04 ∷ 0x05 ∷ []) (0x00 ∷ 0x00 ∷ []) ≡ RefusedJudgement ProvesNothing)
-    × (of_zeros 0x22 (0x02 ∷ 0x03 ∷ 0x02 ∷ 0x03 ∷ []) (0x05 ∷ 0x05 ∷ []) ≡ RefusedJudgement Malformed)
+zero_rows : (of_zeros 0x24 (0x02 ∷ 0x03 ∷ 0x02 ∷ 0x03 ∷ []) (0x05 ∷ 0x05 ∷ []) ≡ Err ProvesNothing)
+    × (of_zeros 0x24 (0x02 ∷ 0x03 ∷ 0x04 ∷ 0x06 ∷ []) (0x02 ∷ 0x01 ∷ []) ≡ Err ProvesNothing)
+    × (of_zeros 0x24 (0x02 ∷ 0x03 ∷ 0x04 ∷ 0x05 ∷ []) (0x00 ∷ 0x00 ∷ []) ≡ Err ProvesNothing)
+    × (of_zeros 0x22 (0x02 ∷ 0x03 ∷ 0x02 ∷ 0x03 ∷ []) (0x05 ∷ 0x05 ∷ []) ≡ Err Malformed)
 unfolding verdict_of verdict_for judgement refuse outside sizes_outside any_of any_below challenge_bytes items challenge_of challenge_in malformed_for out_of_rule named_row all_zero mixed sum times xtimes xtime modulus tab pack packed bits_of bit_of widths number field_at bit_at
 zero_rows = (refl, refl, refl, refl)
 
-other_rows : (of_zeros 0x24 (0x02 ∷ 0x03 ∷ 0x02 ∷ 0x04 ∷ []) (0x05 ∷ 0x05 ∷ []) ≡ Rejected)
-    × (of_zeros 0x24 (0x02 ∷ 0x03 ∷ 0x04 ∷ 0x03 ∷ []) (0x05 ∷ 0x05 ∷ []) ≡ Rejected) × (of_zeros 0x24 (0x02 ∷ 0x03 ∷ 0x02 ∷ 0x03 ∷ []) (0x05 ∷ 0x04 ∷ []) ≡ Rejected)
+other_rows : (of_zeros 0x24 (0x02 ∷ 0x03 ∷ 0x02 ∷ 0x04 ∷ []) (0x05 ∷ 0x05 ∷ []) ≡ Ok Rejected)
+    × (of_zeros 0x24 (0x02 ∷ 0x03 ∷ 0x04 ∷ 0x03 ∷ []) (0x05 ∷ 0x05 ∷ []) ≡ Ok Rejected) × (of_zeros 0x24 (0x02 ∷ 0x03 ∷ 0x02 ∷ 0x03 ∷ []) (0x05 ∷ 0x04 ∷ []) ≡ Ok Rejected)
 unfolding verdict_of verdict_for judgement refuse outside sizes_outside any_of any_below challenge_bytes items challenge_of challenge_in malformed_for out_of_rule named_row all_zero mixed sum times xtimes xtime modulus tab pack packed bits_of bit_of widths number field_at bit_at accepts fails appended data_in product key_vector F1 byte_at half quarter_of set_four quarter quadruples quarters_to rounds block_words serialised word_at start block_of
 other_rows = (refl, refl, refl)
 
 -- ---- a zero key vector
 
-zero_second_lem : (setup_answer zero_second L.mask_key L.id 3 1 (0 ∷ 0 ∷ []) ≡ Done)
-    × (setup_answer zero_second L.mask_key L.id 3 2 (0 ∷ 0 ∷ 0 ∷ 0 ∷ []) ≡ RefusedOutcome ZeroKeyVector)
+zero_second_lem : (setup_answer zero_second L.mask_key L.id 3 1 (0 ∷ 0 ∷ []) ≡ done)
+    × (setup_answer zero_second L.mask_key L.id 3 2 (0 ∷ 0 ∷ 0 ∷ 0 ∷ []) ≡ Err ZeroKeyVector)
 unfolding setup_answer all_zero refuse outside any_of any_below tab key_vector F1 byte_at half quarter_of set_four quarter quadruples quarters_to rounds block_words serialised word_at start block_of
 zero_second_lem = (refl, refl)
 
@@ -125,9 +124,9 @@ one_place_only k h l =
       λ e he. image_number (setting given) (fits given) after_one k e l he ∙ ap (λ (x : Place). place_record (setting given) x e) (other_empty k h l),
     )
 
-first_answer : archive_answer fresh first_call ≡ Done
+first_answer : archive_answer fresh first_call ≡ done
 unfolding answer_for refuse any_of
-first_answer = let e : archive_answer fresh first_call ∷ [] ≡ Done ∷ [] = (demand3 given (first_call ∷ []) one_call).answers in cc
+first_answer = let e : archive_answer fresh first_call ∷ [] ≡ done ∷ [] = (demand3 given (first_call ∷ []) one_call).answers in cc
 
 -- ---- its first call, and what that filled lost again
 
@@ -159,16 +158,16 @@ marks_cleared e =
 
 -- ---- Read and Inventory
 
-not_unreadable : (a b : Bool) → refuse a BadArchive (refuse b Length Done) ≡ RefusedOutcome Unreadable → ⊥
+not_unreadable : (a b : Bool) → refuse a BadArchive (refuse b Length done) ≡ Err Unreadable → ⊥
 unfolding refuse
 not_unreadable true b e = let x : ◌≡◌ {A = ℕ} 0 1 = cc in omega arith
 not_unreadable false true e = let x : ◌≡◌ {A = ℕ} 0 1 = cc in omega arith
 not_unreadable false false e = let x : ◌≡◌ {A = ℕ} 0 1 = cc in omega arith
 
-seen_blind : (s out written : List ℕ) → ReadAllows s out (Refused Unreadable) written → Blind (sizes_of s) (mark_at s) (row_in (sizes_of s) s)
+seen_blind : (s out written : List ℕ) → ReadAllows s out (Err Unreadable) written → Blind (sizes_of s) (mark_at s) (row_in (sizes_of s) s)
 seen_blind s out written w = ⊎_elim (λ e. absurd (not_unreadable _ _ e)) (λ x. x.2) w.1
 
-counted_right : (s out : List ℕ) (count : ℕ) → inventory_answer s out ≡ Count count → count ≡ how_many (place_count (sizes_of s)) (mark_at s)
+counted_right : (s out : List ℕ) (count : ℕ) → inventory_answer s out ≡ Ok count → count ≡ how_many (place_count (sizes_of s)) (mark_at s)
 unfolding inventory_answer
 counted_right s out count e = sym (counted_done (inventory_before (sizes_of s) s out) e).1
 
@@ -178,7 +177,7 @@ other_list i list out h differs e = differs (ap (λ (l : List ℕ). at l i) (sym
 
 -- ---- shares
 
-gathered : (gather_answer (keeping ended []) (put 1 11 (λ i. 0x09) ended) 1 ≡ RefusedOutcome BadArchive) × (gather_answer ended ended 2 ≡ RefusedOutcome PlaceFilled)
+gathered : (gather_answer (keeping ended []) (put 1 11 (λ i. 0x09) ended) 1 ≡ Err BadArchive) × (gather_answer ended ended 2 ≡ Err PlaceFilled)
     × (gather_after (keeping ended []) (put 1 18 (λ i. 0x01) ended) 0 ≡ put 1 18 (λ i. 0x01) (keeping ended []))
 unfolding gather_answer gather_after other_archive filtered archive_after archive_answer effect_for answer_for refuse afterwards any_of any_below outside sizes_outside bad_for layout_outside tag_field layout_of sizes_of field_at bit_at number mark_at byte_in with_marks stored put grid packed over tab
 gathered = (refl, refl, refl)

@@ -10,9 +10,8 @@ use borrow.Author.Tests.{lt-leb}
 use Rattle.lists.specs.Lists.{at, tab, zero_padded, flat, over, any_of, any_below, how_many, filtered}
 use Rattle.lists.proofs.TabLaws.{length_tab, tab_at}
 use Rattle.lists.proofs.PutLaws.{flat_at}
-use Rattle.answer.specs.declared.Outcome.TheVariants.{Done, Refused}
+use Rattle.answer.specs.Answer.{done, Ok, Err}
 use Rattle.answer.specs.declared.Refusal.TheVariants.{Length, NoSuchPlace, PlaceEmpty, PlaceFilled}
-use Rattle.answer.specs.declared.Counted.TheVariants.{Count}
 use Rattle.answer.specs.Refusals.{refuse, afterwards, outside}
 use Rattle.answer.proofs.RefusalLaws.{after_done}
 use Rattle.field.specs.Field.{sum, modulus, xtime, xtimes, times}
@@ -53,14 +52,14 @@ use Rattle.promise.proofs.LifeShares.{shared, Joined, joined}
 -- ---- what is computed, of both lives
 
 abbrev pub Opens : Numbers → Type 0
-Opens w = open_answer w.layout (L.z w.tags) L.id (L.lent w.tags) ≡ Done
+Opens w = open_answer w.layout (L.z w.tags) L.id (L.lent w.tags) ≡ done
 
 pub opens : Opens L.one × Opens L.three
 unfolding open_answer layout_outside refuse sizes_outside outside any_of tab
 opens = (refl, refl)
 
 abbrev pub SetsUp : Numbers → Type 0
-SetsUp w = setup_answer L.tag_key L.mask_key L.id 3 w.tags (L.lent_auxiliary w.tags) ≡ Done
+SetsUp w = setup_answer L.tag_key L.mask_key L.id 3 w.tags (L.lent_auxiliary w.tags) ≡ done
 
 pub sets_up : SetsUp L.one × SetsUp L.three
 unfolding setup_answer all_zero refuse outside any_of any_below tab key_vector F1 byte_at half quarter_of set_four quarter quadruples quarters_to rounds block_words serialised word_at start block_of
@@ -69,7 +68,7 @@ sets_up = (refl, refl)
 abbrev Answers : Numbers → Type 0
 Answers w =
     table_answers (L.z w.tags) all_empty (calls w.tags)
-    ≡ Done ∷ Refused PlaceFilled ∷ Done ∷ Refused Length ∷ Done ∷ Refused PlaceEmpty ∷ Done ∷ Refused NoSuchPlace ∷ Done ∷ Done ∷ []
+    ≡ done ∷ Err PlaceFilled ∷ done ∷ Err Length ∷ done ∷ Err PlaceEmpty ∷ done ∷ Err NoSuchPlace ∷ done ∷ done ∷ []
 
 -- the tables after the Encodes of a fresh archive, after those for node 1 alone, and after those for node 2 alone; the answers of the first
 abbrev fresh_table : (tags : ℕ) → Table
@@ -82,7 +81,7 @@ abbrev two_table : (tags : ℕ) → Table
 two_table tags = table_run (L.z tags) all_empty (drop 2 L.encodes)
 
 abbrev FreshAnswers : Numbers → Type 0
-FreshAnswers w = table_answers (L.z w.tags) all_empty L.encodes ≡ Done ∷ Done ∷ Done ∷ Done ∷ []
+FreshAnswers w = table_answers (L.z w.tags) all_empty L.encodes ≡ done ∷ done ∷ done ∷ done ∷ []
 
 table_answers_lem : (Answers L.one × FreshAnswers L.one) × (Answers L.three × FreshAnswers L.three)
 unfolding answer_for refuse any_of any_below outside afterwards written over
@@ -129,7 +128,7 @@ unfolding vector_out vector_answer afterwards refuse outside any_of tab flat key
 vectors = (refl, refl)
 
 -- an element of what Vector writes is that of the key vector
-vector_done : (s : ℕ) → s < 10 → vector_answer L.tag_key L.id 3 2 s (tab 5 (λ i. 0)) ≡ Done
+vector_done : (s : ℕ) → s < 10 → vector_answer L.tag_key L.id 3 2 s (tab 5 (λ i. 0)) ≡ done
 unfolding vector_answer refuse outside any_of tab
 vector_done s h = rw (lt-leb 10 s h)
 
@@ -145,7 +144,7 @@ asking = record { node = 2; places = 0 ∷ 1 ∷ []; coefficients = 0x07 ∷ 0xb
 abbrev asking_nothing : Challenge
 asking_nothing = record { node = 1; places = 1 ∷ []; coefficients = 0x01 ∷ [] }
 
-asked : (challenge_answer asking (tab 5 (λ i. 0)) ≡ Done) × (challenge_answer asking_nothing (tab 3 (λ i. 0)) ≡ Done)
+asked : (challenge_answer asking (tab 5 (λ i. 0)) ≡ done) × (challenge_answer asking_nothing (tab 3 (λ i. 0)) ≡ done)
 unfolding challenge_answer refuse out_of_rule outside any_of any_below tab
 asked = (refl, refl)
 
@@ -181,7 +180,7 @@ module _ (w : Numbers) (o : Opens w) (u : SetsUp w) where
   -- ---- the audits
 
   -- by a challenge, with one seed
-  abbrev audit_by : (c : Challenge) (lent : List ℕ) → challenge_answer c lent ≡ Done → Each (λ x. x < 256) c.coefficients → c.node < 3
+  abbrev audit_by : (c : Challenge) (lent : List ℕ) → challenge_answer c lent ≡ done → Each (λ x. x < 256) c.coefficients → c.node < 3
       → Each (λ x. x < 2) c.places → AllFilled w.tags c.node c.places → Honest lives (table w.tags)
   audit_by c lent asked bytes node places filled =
       record {
@@ -252,7 +251,7 @@ module _ (w : Numbers) (o : Opens w) (u : SetsUp w) where
 
   -- the fresh archive from its own table, not by way of the life's
   fresh : FreshAnswers w → Image (fresh_table w.tags) w.archive_bytes → (lent : List ℕ) → length lent ≡ archive_length (L.z w.tags)
-      → (archive_answers (open_out w.layout (L.z w.tags) L.id lent) L.encodes ≡ Done ∷ Done ∷ Done ∷ Done ∷ [])
+      → (archive_answers (open_out w.layout (L.z w.tags) L.id lent) L.encodes ≡ done ∷ done ∷ done ∷ done ∷ [])
       × (archive_run (open_out w.layout (L.z w.tags) L.id lent) L.encodes ≡ w.archive_bytes)
   fresh answers image lent long =
       let made = from_new lives lent (reopens lives lent long) L.encodes encodes_admitted in (made.0 ∙ answers, made.1 ∙ image)
@@ -260,7 +259,7 @@ module _ (w : Numbers) (o : Opens w) (u : SetsUp w) where
   merged : Joined w → Image (one_table w.tags) one_bytes → Image (two_table w.tags) two_bytes
       → (lent : List ℕ) → length lent ≡ archive_length (L.z w.tags)
       → (gather_answer (archive_run (open_out w.layout (L.z w.tags) L.id lent) (take 2 L.encodes))
-      (archive_run (open_out w.layout (L.z w.tags) L.id lent) (drop 2 L.encodes)) 2 ≡ Done)
+      (archive_run (open_out w.layout (L.z w.tags) L.id lent) (drop 2 L.encodes)) 2 ≡ done)
       × (gather_after (archive_run (open_out w.layout (L.z w.tags) L.id lent) (take 2 L.encodes))
       (archive_run (open_out w.layout (L.z w.tags) L.id lent) (drop 2 L.encodes)) 2 ≡ w.archive_bytes)
   merged joins first second lent long =
@@ -336,7 +335,7 @@ module _ (w : Numbers) (o : Opens w) (u : SetsUp w) where
         fresh_is = fresh answers.1 images.1;
         shared = subst (Shared w) (sym left) shared;
         merged = merged joins images.2 images.3;
-        inventory_is = λ out e. let i = (d.inventory out).0 e in (i.0 ∙ ap Count shelved.0, i.1 ∙ shelved.1);
+        inventory_is = λ out e. let i = (d.inventory out).0 e in (i.0 ∙ ap Ok shelved.0, i.1 ∙ shelved.1);
         losses_are = subst LossesAre (sym left) losses;
         vectors_are = vectors;
         auxiliary_are = elements;

@@ -10,7 +10,7 @@ use lib.ListN.{length}
 use Rattle.lists.specs.Lists.{pick, at, tab, zero_padded, filtered, any_of, any_below}
 use Rattle.lists.proofs.AllLaws.{all, all_at, told}
 use Rattle.lists.proofs.TabLaws.{order}
-use Rattle.answer.specs.declared.Counted.TheVariants.{Count}
+use Rattle.answer.specs.Answer.{Ok}
 use Rattle.answer.specs.Refusals.{outside}
 use Rattle.field.specs.Field.{sum, times, xtimes, xtime, modulus}
 use Rattle.bits.specs.Fields.{number, bit_at, field_at}
@@ -70,10 +70,10 @@ life_pass = ((tt, tt, tt, tt, tt), (tt, tt, tt, tt, tt), (tt, tt, tt, tt, tt), (
 abbrev pub LossesAre : List ℕ → Type 0
 LossesAre s =
     (out : List ℕ) → length out ≡ 20
-    → LossesAllows s 0 out (Count 0) (zero_padded 20 [])
-    × LossesAllows s 1 out (Count 1) (zero_padded 20 (0x04 ∷ []))
-    × LossesAllows s 2 out (Count 2) (zero_padded 20 (0x05 ∷ 0x06 ∷ []))
-    × LossesAllows s 3 out (Count 1) (zero_padded 20 (0x07 ∷ []))
+    → LossesAllows s 0 out (Ok 0) (zero_padded 20 [])
+    × LossesAllows s 1 out (Ok 1) (zero_padded 20 (0x04 ∷ []))
+    × LossesAllows s 2 out (Ok 2) (zero_padded 20 (0x05 ∷ 0x06 ∷ []))
+    × LossesAllows s 3 out (Ok 1) (zero_padded 20 (0x07 ∷ []))
 
 module _ (tags : ℕ) (s : List ℕ) (h : Header tags s) (r : Rows tags s) where
   -- places 4 and 5 are those of node 2
@@ -109,7 +109,7 @@ module _ (tags : ℕ) (s : List ℕ) (h : Header tags s) (r : Rows tags s) where
       go false p w = sighted set p w
 
   life_listed : (k : ℕ) (xs out : List ℕ) → k ≤ 3 → length out ≡ 20 → length xs ≤ 20 → Passes hurting 3 k xs
-      → LossesAllows s k out (Count (length xs)) (zero_padded 20 xs)
+      → LossesAllows s k out (Ok (length xs)) (zero_padded 20 xs)
   life_listed = listed (L.z tags) s h.0 h.1 hurting life_hurts
 
   all_listed : LossesAre s

@@ -1,7 +1,7 @@
 -- What the archives in which both lives end tell of themselves, and their shares, computed. Assumes nothing.
 use mathlib.Core.Path.{◌≡◌, refl}
 use Rattle.lists.specs.Lists.{tab, over, flat, put, grid, filtered, any_of, any_below}
-use Rattle.answer.specs.declared.Outcome.TheVariants.{Done}
+use Rattle.answer.specs.Answer.{done}
 use Rattle.answer.specs.Refusals.{refuse, afterwards, outside}
 use Rattle.bits.specs.Fields.{number, packed, bit_at, field_at}
 use Rattle.sizes.specs.Sizes.{sizes_outside}
@@ -32,7 +32,7 @@ shared = (
 -- node 2, gathered into an archive that has node 1 alone
 abbrev pub Joined : Numbers → Type 0
 Joined w =
-    (gather_answer (alone w.tags 0x30 1 w.archive_bytes) (alone w.tags 0x0c 2 w.archive_bytes) 2 ≡ Done)
+    (gather_answer (alone w.tags 0x30 1 w.archive_bytes) (alone w.tags 0x0c 2 w.archive_bytes) 2 ≡ done)
     × (gather_after (alone w.tags 0x30 1 w.archive_bytes) (alone w.tags 0x0c 2 w.archive_bytes) 2 ≡ w.archive_bytes)
 
 pub joined : Joined L.one × Joined L.three

@@ -11,8 +11,7 @@ use borrow.Author.Tests.{le-ltb}
 use Rattle.lists.specs.Lists.{pick, at, zero_padded, any_below}
 use Rattle.lists.proofs.AllLaws.{all, all_at, told}
 use Rattle.lists.proofs.PadLaws.{padded_behind, length_padded}
-use Rattle.answer.specs.declared.Counted.{Counted}
-use Rattle.answer.specs.declared.Counted.TheVariants.{Count}
+use Rattle.answer.specs.Answer.{Counted, Ok}
 use Rattle.answer.proofs.RefusalLaws.{passed, differs_same}
 use Rattle.sizes.specs.declared.Sizes.{Sizes}
 use Rattle.vector.specs.Vectors.{product}
@@ -76,16 +75,16 @@ module _ (z : Sizes) (s : List ℕ) (sizes : sizes_of s ≡ z) (good : bad_archi
       }
 
   pub listed : k ≤ z.nodes → length lent ≡ list_length → length xs ≤ list_length → Passes hurting z.nodes k xs
-      → LossesAllows s k lent (Count (length xs)) sets
+      → LossesAllows s k lent (Ok (length xs)) sets
   listed most e low t =
-      subst (λ (x : Sizes). LossesFor x s k lent (Count (length xs)) sets) (sym sizes)
+      subst (λ (x : Sizes). LossesFor x s k lent (Ok (length xs)) sets) (sym sizes)
       (passed _ _ good ∙ passed _ _ (le-ltb z.nodes k most) ∙ passed _ _ (differs_same e), losses low t)
 
 -- no other list is
 pub other : (s : List ℕ) (k : ℕ) (lent : List ℕ) (count : ℕ) (sets sets' wrong : List ℕ) (answer : Counted) (i : ℕ)
-    → LossesAllows s k lent (Count count) sets → LossesAllows s k lent answer sets' → at sets i ≢ at wrong i → sets' ≢ wrong
+    → LossesAllows s k lent (Ok count) sets → LossesAllows s k lent answer sets' → at sets i ≢ at wrong i → sets' ≢ wrong
 other s k lent count sets sets' wrong answer i w w' n e =
-    n (ap (λ (l : List ℕ). at l i) ((losses_are_fixed s k lent (Count count) answer sets sets' w w').1 ∙ e))
+    n (ap (λ (l : List ℕ). at l i) ((losses_are_fixed s k lent (Ok count) answer sets sets' w w').1 ∙ e))
 
 -- ---- archives of n=3 and m=2
 

@@ -10,8 +10,7 @@ use lib.ListN.{length}
 use Rattle.lists.specs.Lists.{pick, at, tab, zero_padded, filtered, any_of, any_below}
 use Rattle.lists.proofs.AllLaws.{all}
 use Rattle.lists.proofs.TabLaws.{length_tab}
-use Rattle.answer.specs.declared.Counted.{Counted}
-use Rattle.answer.specs.declared.Counted.TheVariants.{Count, Refused}
+use Rattle.answer.specs.Answer.{Counted, Ok, Err}
 use Rattle.answer.specs.declared.Refusal.TheVariants.{Size, Length, BadArchive}
 use Rattle.answer.specs.Refusals.{refuse, outside}
 use Rattle.field.specs.Field.{sum, times, xtimes, xtime, modulus}
@@ -73,7 +72,7 @@ four_pass : Passes (λ set. true) 4 2 four_sets
 unfolding all any_below nodes_in filtered before zero_padded tab
 four_pass = (tt, tt, tt, tt, tt)
 
-pub all_hurt : (lent : List ℕ) → length lent ≡ 20 → LossesAllows four_empty 2 lent (Count 6) (zero_padded 20 four_sets)
+pub all_hurt : (lent : List ℕ) → length lent ≡ 20 → LossesAllows four_empty 2 lent (Ok 6) (zero_padded 20 four_sets)
 all_hurt lent e =
     listed (sized 1 4 1) four_empty four_sizes four_good (λ set. true) four_hurts 2 four_sets lent (omega arith) e (omega arith) four_pass
 
@@ -124,7 +123,7 @@ two_hurts set = (
         (ap (λ (t : Bool). pick t false (mark_at W.two 2)) q ∙ third_marked) w
 
 two_listed : (k : ℕ) (xs lent : List ℕ) → k ≤ 3 → length lent ≡ 20 → length xs ≤ 20 → Passes hurting 3 k xs
-    → LossesAllows W.two k lent (Count (length xs)) (zero_padded 20 xs)
+    → LossesAllows W.two k lent (Ok (length xs)) (zero_padded 20 xs)
 two_listed = listed W.z W.two two_sizes two_good hurting two_hurts
 
 two_pass : Passes hurting 3 0 [] × Passes hurting 3 1 (0x01 ∷ 0x04 ∷ []) × Passes hurting 3 2 (0x03 ∷ 0x05 ∷ 0x06 ∷ [])
@@ -132,16 +131,16 @@ two_pass : Passes hurting 3 0 [] × Passes hurting 3 1 (0x01 ∷ 0x04 ∷ []) ×
 unfolding all any_below nodes_in filtered before zero_padded tab
 two_pass = ((tt, tt, tt, tt, tt), (tt, tt, tt, tt, tt), (tt, tt, tt, tt, tt), (tt, tt, tt, tt, tt))
 
-pub nothing_lost : (lent : List ℕ) → length lent ≡ 20 → LossesAllows W.two 0 lent (Count 0) (zero_padded 20 [])
+pub nothing_lost : (lent : List ℕ) → length lent ≡ 20 → LossesAllows W.two 0 lent (Ok 0) (zero_padded 20 [])
 nothing_lost lent e = two_listed 0 [] lent (omega arith) e (omega arith) two_pass.0
 
-pub one_lost : (lent : List ℕ) → length lent ≡ 20 → LossesAllows W.two 1 lent (Count 2) (zero_padded 20 (0x01 ∷ 0x04 ∷ []))
+pub one_lost : (lent : List ℕ) → length lent ≡ 20 → LossesAllows W.two 1 lent (Ok 2) (zero_padded 20 (0x01 ∷ 0x04 ∷ []))
 one_lost lent e = two_listed 1 (0x01 ∷ 0x04 ∷ []) lent (omega arith) e (omega arith) two_pass.1
 
-pub two_lost : (lent : List ℕ) → length lent ≡ 20 → LossesAllows W.two 2 lent (Count 3) (zero_padded 20 (0x03 ∷ 0x05 ∷ 0x06 ∷ []))
+pub two_lost : (lent : List ℕ) → length lent ≡ 20 → LossesAllows W.two 2 lent (Ok 3) (zero_padded 20 (0x03 ∷ 0x05 ∷ 0x06 ∷ []))
 two_lost lent e = two_listed 2 (0x03 ∷ 0x05 ∷ 0x06 ∷ []) lent (omega arith) e (omega arith) two_pass.2
 
-pub all_lost : (lent : List ℕ) → length lent ≡ 20 → LossesAllows W.two 3 lent (Count 1) (zero_padded 20 (0x07 ∷ []))
+pub all_lost : (lent : List ℕ) → length lent ≡ 20 → LossesAllows W.two 3 lent (Ok 1) (zero_padded 20 (0x07 ∷ []))
 all_lost lent e = two_listed 3 (0x07 ∷ []) lent (omega arith) e (omega arith) two_pass.3
 
 pub not_kept : (lent sets : List ℕ) (answer : Counted) → length lent ≡ 20 → LossesAllows W.two 1 lent answer sets
@@ -151,14 +150,14 @@ not_kept lent sets answer e w = other W.two 1 lent 2 _ sets _ answer 0 (one_lost
 
 -- ---- refused
 
-pub no_archive : (k : ℕ) (lent : List ℕ) → LossesAllows [] k lent (Refused BadArchive) lent
+pub no_archive : (k : ℕ) (lent : List ℕ) → LossesAllows [] k lent (Err BadArchive) lent
 unfolding refuse bad_for layout_outside tag_field layout_of sizes_outside outside any_of any_below sizes_of field_at bit_at number mark_at
 no_archive k lent = (refl, refl)
 
-pub four_of_three : (lent : List ℕ) → LossesAllows W.two 4 lent (Refused Size) lent
+pub four_of_three : (lent : List ℕ) → LossesAllows W.two 4 lent (Err Size) lent
 unfolding refuse bad_for layout_outside tag_field layout_of sizes_outside outside any_of any_below sizes_of field_at bit_at number mark_at
 four_of_three lent = (refl, refl)
 
-pub list_of_19 : (lent : List ℕ) → length lent ≡ 19 → LossesAllows W.two 3 lent (Refused Length) lent
+pub list_of_19 : (lent : List ℕ) → length lent ≡ 19 → LossesAllows W.two 3 lent (Err Length) lent
 unfolding refuse bad_for layout_outside tag_field layout_of sizes_outside outside any_of any_below sizes_of field_at bit_at number mark_at
 list_of_19 lent e = (refl, rw e)

@@ -9,7 +9,7 @@ use lib.Seq.{ext_get_or}
 use Rattle.lists.specs.Lists.{at}
 use Rattle.lists.proofs.TabLaws.{order}
 use Rattle.lists.proofs.SortedLaws.{same_rising}
-use Rattle.answer.specs.declared.Counted.TheVariants.{Count, Refused}
+use Rattle.answer.specs.Answer.{Ok, Err}
 use Rattle.answer.proofs.RefusalLaws.{never_both, same_refusal}
 use Rattle.sizes.specs.declared.Sizes.{Sizes}
 use Rattle.archive.specs.Layout.{sizes_of}
@@ -35,8 +35,8 @@ module _ (z : Sizes) (s : List ℕ) (k c d : ℕ) (sets sets' : List ℕ) (w : L
   lists_same = ext_get_or 0 sets sets' (w.size ∙ sym w'.size) (λ j h. ⊎_elim (sets_same.1 j) (λ l. rest_same j l (omega (arith, w.size))) (order j c))
 
 pub losses_are_fixed : LossesAreFixed
-losses_are_fixed s k lent (Count c) (Count d) sets sets' w w' =
-    (ap Count (sets_same (sizes_of s) s k c d sets sets' w.1 w'.1).0, lists_same (sizes_of s) s k c d sets sets' w.1 w'.1)
-losses_are_fixed s k lent (Count c) (Refused r) sets sets' w w' = absurd (never_both w.0 w'.1)
-losses_are_fixed s k lent (Refused r) (Count d) sets sets' w w' = absurd (never_both w'.0 w.1)
-losses_are_fixed s k lent (Refused r) (Refused r') sets sets' w w' = (ap Refused (same_refusal w.1 w'.1), w.0 ∙ sym w'.0)
+losses_are_fixed s k lent (Ok c) (Ok d) sets sets' w w' =
+    (ap Ok (sets_same (sizes_of s) s k c d sets sets' w.1 w'.1).0, lists_same (sizes_of s) s k c d sets sets' w.1 w'.1)
+losses_are_fixed s k lent (Ok c) (Err r) sets sets' w w' = absurd (never_both w.0 w'.1)
+losses_are_fixed s k lent (Err r) (Ok d) sets sets' w w' = absurd (never_both w'.0 w.1)
+losses_are_fixed s k lent (Err r) (Err r') sets sets' w w' = (ap Err (same_refusal w.1 w'.1), w.0 ∙ sym w'.0)

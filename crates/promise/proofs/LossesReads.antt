@@ -7,9 +7,8 @@ use mathlib.Core.Logic.{⊎_elim, ◌↔◌}
 use native.Mathlib.Omega.{arith}
 use lib.ListN.{length}
 use Rattle.lists.specs.Lists.{holds}
-use Rattle.answer.specs.declared.Counted.{Counted}
-use Rattle.answer.specs.declared.Counted.TheVariants.{Count, Refused}
-use Rattle.answer.specs.Counted.{counted_number}
+use Rattle.answer.specs.Answer.{Counted, Ok, Err}
+use Rattle.answer.specs.Numbers.{answer_number}
 use Rattle.answer.specs.Numbers.{refusal_number}
 use Rattle.answer.proofs.RefusalLaws.{passed, accepted, differs_same, never_both}
 use Rattle.sizes.specs.declared.Sizes.{Sizes}
@@ -28,7 +27,7 @@ use Rattle.archive.proofs.LostLaws.{filled}
 use Rattle.promise.specs.Losing.{loses, LossesAreReads}
 use Rattle.promise.proofs.LoseRunLaws.{Without, Run, lose_run}
 
-module _ (s lent sets : List ℕ) (k count set : ℕ) (w : LossesAllows s k lent (Count count) sets) (of : SetOf (sizes_of s) k set) where
+module _ (s lent sets : List ℕ) (k count set : ℕ) (w : LossesAllows s k lent (Ok count) sets) (of : SetOf (sizes_of s) k set) where
   abbrev z : Sizes
   z = sizes_of s
 
@@ -65,7 +64,7 @@ module _ (s lent sets : List ℕ) (k count set : ℕ) (w : LossesAllows s k lent
 
   -- what is claimed of an answer of Read
   abbrev Shown : Counted → Type 0
-  Shown answer = ((counted_number answer ≡ 8) ↔ Stands count sets set) × ((¬ Stands count sets set) → counted_number answer ≡ 0)
+  Shown answer = ((answer_number answer ≡ 8) ↔ Stands count sets set) × ((¬ Stands count sets set) → answer_number answer ≡ 0)
 
   hurts : Stands count sets set → Hurts z s set
   hurts (j, h, e) = subst (Hurts z s) e (w.1.only j h).1
@@ -74,8 +73,8 @@ module _ (s lent sets : List ℕ) (k count set : ℕ) (w : LossesAllows s k lent
   read out answer file long allows = go answer (subst (λ (x : Sizes). ReadFor x t out answer file) (sym run.sizes) allows)
     where
       go : (answer : Counted) → ReadFor z t out answer file → Shown answer
-      go (Count c) r = ((λ e. absurd (omega arith), λ stands. absurd (r.1 (to_archive (hurts stands)))), λ n. refl)
-      go (Refused refusal) r =
+      go (Ok c) r = ((λ e. absurd (omega arith), λ stands. absurd (r.1 (to_archive (hurts stands)))), λ n. refl)
+      go (Err refusal) r =
           ⊎_elim
           (λ x. absurd (never_both (passed _ _ run.good ∙ passed _ _ (differs_same long)) x))
           (λ x.

@@ -5,7 +5,7 @@ use mathlib.Core.Logic.{◌≢◌, inr}
 use mathlib.Core.List.{[], ◌∷◌}
 use native.Mathlib.Omega.{arith}
 use Rattle.lists.specs.Lists.{at, any_of, any_below}
-use Rattle.answer.specs.declared.Outcome.TheVariants.{Done, Refused}
+use Rattle.answer.specs.Answer.{done, Err}
 use Rattle.answer.specs.declared.Refusal.TheVariants.{NoPlan}
 use Rattle.answer.specs.Refusals.{refuse, outside}
 use Rattle.field.specs.Field.{sum, times, xtimes, xtime, modulus}
@@ -28,7 +28,7 @@ use Rattle.promise.proofs.Worked.{two_sizes}
 abbrev row : ℕ → ℕ → ℕ
 row = repair_row W.z W.two (0 ∷ 2 ∷ []) 1 (1 ∷ 1 ∷ [])
 
-before : plan_before W.two (0 ∷ 2 ∷ []) 1 (1 ∷ 1 ∷ []) (0 ∷ 3 ∷ []) (0 ∷ 0 ∷ []) ≡ Done
+before : plan_before W.two (0 ∷ 2 ∷ []) 1 (1 ∷ 1 ∷ []) (0 ∷ 3 ∷ []) (0 ∷ 0 ∷ []) ≡ done
 unfolding refuse bad_for layout_outside tag_field layout_of sizes_outside outside any_of any_below sizes_of field_at bit_at number mark_at
 before = refl
 
@@ -68,16 +68,16 @@ two_planned =
     unused (suc zero) h s k l = absurd (second_apart s)
     unused (suc (suc t)) h s k l = absurd (omega arith)
 
-pub planned_two : PlanAllows W.two (0 ∷ 2 ∷ []) 1 (1 ∷ 1 ∷ []) (0 ∷ 3 ∷ []) (0 ∷ 0 ∷ []) Done (2 ∷ 1 ∷ [])
+pub planned_two : PlanAllows W.two (0 ∷ 2 ∷ []) 1 (1 ∷ 1 ∷ []) (0 ∷ 3 ∷ []) (0 ∷ 0 ∷ []) done (2 ∷ 1 ∷ [])
 planned_two =
     subst (λ (z : Sizes).
     PlanAnswer (plan_before W.two (0 ∷ 2 ∷ []) 1 (1 ∷ 1 ∷ []) (0 ∷ 3 ∷ []) (0 ∷ 0 ∷ [])) z 2 (repair_row z W.two (0 ∷ 2 ∷ []) 1 (1 ∷ 1 ∷ []))
-    (wanted_row z (0 ∷ 3 ∷ [])) (0 ∷ 0 ∷ []) Done (2 ∷ 1 ∷ [])) (sym two_sizes)
+    (wanted_row z (0 ∷ 3 ∷ [])) (0 ∷ 0 ∷ []) done (2 ∷ 1 ∷ [])) (sym two_sizes)
     (before, planned_reaches W.z 2 row _ (2 ∷ 1 ∷ []) two_planned, two_planned)
 
 -- ---- box 0 alone
 
-alone : plan_before W.two (0 ∷ []) 1 (1 ∷ []) (0 ∷ 3 ∷ []) (0 ∷ []) ≡ Done
+alone : plan_before W.two (0 ∷ []) 1 (1 ∷ []) (0 ∷ 3 ∷ []) (0 ∷ []) ≡ done
 unfolding refuse bad_for layout_outside tag_field layout_of sizes_outside outside any_of any_below sizes_of field_at bit_at number mark_at
 alone = refl
 
@@ -101,8 +101,8 @@ unreached =
       not_orthogonal = not_orthogonal;
     }
 
-pub unplanned_one : PlanAllows W.two (0 ∷ []) 1 (1 ∷ []) (0 ∷ 3 ∷ []) (0 ∷ []) (Refused NoPlan) (0 ∷ [])
+pub unplanned_one : PlanAllows W.two (0 ∷ []) 1 (1 ∷ []) (0 ∷ 3 ∷ []) (0 ∷ []) (Err NoPlan) (0 ∷ [])
 unplanned_one =
     subst (λ (z : Sizes).
     PlanAnswer (plan_before W.two (0 ∷ []) 1 (1 ∷ []) (0 ∷ 3 ∷ []) (0 ∷ [])) z 1 (repair_row z W.two (0 ∷ []) 1 (1 ∷ [])) (wanted_row z (0 ∷ 3 ∷ [])) (0 ∷ [])
-    (Refused NoPlan) (0 ∷ [])) (sym two_sizes) (refl, inr (alone, refl, unreached))
+    (Err NoPlan) (0 ∷ [])) (sym two_sizes) (refl, inr (alone, refl, unreached))

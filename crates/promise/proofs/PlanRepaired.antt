@@ -9,7 +9,7 @@ use lib.ListN.{length}
 use borrow.Author.Tests.{lt-leb}
 use Rattle.lists.proofs.AnyLaws.{none_at, any_skip, any_last, any_none}
 use Rattle.lists.proofs.OverLaws.{over_within}
-use Rattle.answer.specs.declared.Outcome.TheVariants.{Done, Refused}
+use Rattle.answer.specs.Answer.{done, Err}
 use Rattle.answer.specs.declared.Refusal.TheVariants.{Size, Length, BadArchive, NoSuchPlace, PlaceEmpty, PlaceFilled, NoPlan}
 use Rattle.answer.proofs.RefusalLaws.{accepted, passed, skipped, never_both, inside, differs_same, after_done}
 use Rattle.sizes.specs.declared.Sizes.{Sizes}
@@ -30,18 +30,18 @@ use Rattle.promise.specs.Plans.{PlannedRepair, NoThetas}
 
 -- the rows that Repair gives are the repair rows combined by the thetas
 given_rows : (s helpers : List ℕ) (q : ℕ) (gammas thetas : List ℕ) (target scratch : ℕ)
-    → archive_answer s (repair target helpers q gammas thetas scratch) ≡ Done → (k i : ℕ) → k < (sizes_of s).places → i < (sizes_of s).m
+    → archive_answer s (repair target helpers q gammas thetas scratch) ≡ done → (k i : ℕ) → k < (sizes_of s).places → i < (sizes_of s).m
     → mixed (length helpers * q) (λ t. theta_in (sizes_of s) thetas t k) (repair_row (sizes_of s) s helpers q gammas) i
     ≡ row_in (sizes_of s) (archive_after s (repair target helpers q gammas thetas scratch)) (place_number (sizes_of s) target k) i
 unfolding archive_answer answer_for mixed target_byte repair_byte byte_in
-given_rows s helpers q gammas thetas target scratch done k i h l =
+given_rows s helpers q gammas thetas target scratch is k i h l =
     let z : Sizes = sizes_of s in
-    let low = (inside 1 _ q (none_at _ 1 (accepted _ _ _ (accepted _ _ _ done).1).0)).0 in
-    target_mixed z s helpers q gammas thetas k (z.n + i) low ∙ sym (repaired_rows s target helpers q gammas thetas scratch done k i h l)
+    let low = (inside 1 _ q (none_at _ 1 (accepted _ _ _ (accepted _ _ _ is).1).0)).0 in
+    target_mixed z s helpers q gammas thetas k (z.n + i) low ∙ sym (repaired_rows s target helpers q gammas thetas scratch is k i h l)
 
 -- ---- what was planned
 
-module _ (s helpers : List ℕ) (q : ℕ) (gammas rows lent thetas : List ℕ) (target : ℕ) (plan : PlanAllows s helpers q gammas rows lent Done thetas)
+module _ (s helpers : List ℕ) (q : ℕ) (gammas rows lent thetas : List ℕ) (target : ℕ) (plan : PlanAllows s helpers q gammas rows lent done thetas)
     (there : target < (sizes_of s).nodes) (empty : (k : ℕ) → k < (sizes_of s).places → filled_in (sizes_of s) s target k ≡ false) where
   abbrev z : Sizes
   z = sizes_of s
@@ -56,9 +56,9 @@ module _ (s helpers : List ℕ) (q : ℕ) (gammas rows lent thetas : List ℕ) (
   ranged = good_sizes s good
 
   -- Plan's tests are Repair's, but for the thetas, the scratch buffer and the target
-  done : archive_answer s call ≡ Done
+  repairs : archive_answer s call ≡ done
   unfolding archive_answer answer_for
-  done =
+  repairs =
       let counts = accepted _ _ _ (accepted _ _ _ plan.0).1 in
       let lengths = accepted _ _ _ counts.1 in
       let nodes = accepted _ _ _ lengths.1 in
@@ -73,18 +73,18 @@ module _ (s helpers : List ℕ) (q : ℕ) (gammas rows lent thetas : List ℕ) (
   filled : (k : ℕ) → k < z.places → filled_in z (archive_after s call) target k ≡ true
   unfolding archive_after effect_for
   filled k h =
-      ap (λ (t : List ℕ). filled_in z t target k) (after_done _ _ done)
+      ap (λ (t : List ℕ). filled_in z t target k) (after_done _ _ repairs)
       ∙ stored_mark z (λ j. true) (place_number z target 0) z.places _ s (place_number z target k) (omega (arith, good_length s good))
       (omega (arith, number_low z ranged target k there h, count_low z ranged))
       ∙ over_within (place_number z target 0) z.places _ (mark_at s) (place_number z target k) (omega arith) (omega arith)
 
   holds : (k i : ℕ) → k < z.places → i < z.m → row_in z (archive_after s call) (place_number z target k) i ≡ wanted_row z rows k i
-  holds k i h l = sym (given_rows s helpers q gammas thetas target _ done k i h l) ∙ plan.2.gives k i h l
+  holds k i h l = sym (given_rows s helpers q gammas thetas target _ repairs k i h l) ∙ plan.2.gives k i h l
 
 pub planned_repair : PlannedRepair
 planned_repair s helpers q gammas rows lent thetas target plan there empty =
     record {
-      done = done s helpers q gammas rows lent thetas target plan there empty;
+      done = repairs s helpers q gammas rows lent thetas target plan there empty;
       filled = filled s helpers q gammas rows lent thetas target plan there empty;
       holds = holds s helpers q gammas rows lent thetas target plan there empty;
     }
@@ -92,7 +92,7 @@ planned_repair s helpers q gammas rows lent thetas target plan there empty =
 -- ---- where no plan is found
 
 -- 12 comes of no other test
-not_before : (s helpers : List ℕ) (q : ℕ) (gammas rows lent : List ℕ) → plan_before s helpers q gammas rows lent ≢ Refused NoPlan
+not_before : (s helpers : List ℕ) (q : ℕ) (gammas rows lent : List ℕ) → plan_before s helpers q gammas rows lent ≢ Err NoPlan
 not_before s helpers q gammas rows lent e =
     never_both refl
     (skipped _ PlaceEmpty _ (λ w. omega arith) (skipped _ NoSuchPlace _ (λ w. omega arith)

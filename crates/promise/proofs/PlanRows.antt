@@ -9,7 +9,7 @@ use lib.ListN.{length}
 use borrow.Author.Tests.{leb-false, not-false}
 use Rattle.lists.specs.Lists.{at, any_below}
 use Rattle.lists.proofs.AnyLaws.{none_at, any_below_lem, any_same}
-use Rattle.answer.specs.declared.Outcome.TheVariants.{Done, Refused}
+use Rattle.answer.specs.Answer.{done, Ok, Err}
 use Rattle.answer.specs.declared.Refusal.TheVariants.{Size, Length, BadArchive, NoSuchPlace, PlaceEmpty}
 use Rattle.answer.proofs.RefusalLaws.{accepted, refuse_same, inside}
 use Rattle.field.specs.Field.{sum, times}
@@ -52,7 +52,7 @@ module _ (s s' helpers : List ℕ) (q : ℕ) (gammas rows lent : List ℕ) (S : 
   wanted_same : Alike z.places z.m (wanted_row z rows) (wanted_row z' rows)
   wanted_same k i h l = ap (λ (x : ℕ). at rows (k * x + i)) S.same_m
 
-  module _ (done : plan_before s helpers q gammas rows lent ≡ Done) where
+  module _ (done : plan_before s helpers q gammas rows lent ≡ done) where
     -- the helpers' rows, which are all filled, and the repair rows
     helper_same : (a l i : ℕ) → a < length helpers → l < z.places → i < z.m
         → row_in z s (place_number z (at helpers a) l) i ≡ row_in z' s' (place_number z (at helpers a) l) i
@@ -78,10 +78,10 @@ module _ (s s' helpers : List ℕ) (q : ℕ) (gammas rows lent : List ℕ) (S : 
     planned = planned_alike z z' (length helpers * q) _ _ _ _ S.same_m S.same_places repair_same wanted_same
 
 pub plan_reads_rows : PlanReadsRows
-plan_reads_rows s s' helpers q gammas rows lent (Refused r) thetas S w =
+plan_reads_rows s s' helpers q gammas rows lent (Err r) thetas S w =
     let same = before_same s s' helpers q gammas rows lent S in
     let ruled_out = unreachable s s' helpers q gammas rows lent S in
     (w.0, ⊎_elim (λ a. inl (sym same ∙ a)) (λ a. inr (sym same ∙ a.0, a.1, ruled_out a.0 a.2)) w.1)
-plan_reads_rows s s' helpers q gammas rows lent Done thetas S w =
+plan_reads_rows s s' helpers q gammas rows lent (Ok _) thetas S w =
     let plan = planned s s' helpers q gammas rows lent S w.0 thetas w.2 in
     (sym (before_same s s' helpers q gammas rows lent S) ∙ w.0, planned_reaches (sizes_of s') (length helpers * q) _ _ thetas plan, plan)

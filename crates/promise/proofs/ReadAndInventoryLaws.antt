@@ -8,9 +8,9 @@ use native.Mathlib.Omega.{arith}
 use lib.ListN.{length}
 use borrow.Author.Tests.{eq-eqb, ne_eqb}
 use Rattle.lists.specs.Lists.{at, bit, how_many, Bytes}
-use Rattle.answer.specs.declared.Outcome.TheVariants.{Done, Refused as RefusedOutcome}
+use Rattle.answer.specs.Answer.{Counted, done, Ok, Err}
 use Rattle.answer.specs.declared.Refusal.TheVariants.{Length, BadArchive}
-use Rattle.answer.specs.Numbers.{refusal_number}
+use Rattle.answer.specs.Numbers.{refusal_number, answer_number}
 use Rattle.answer.specs.Refusals.{refuse, afterwards, differs}
 use Rattle.answer.proofs.RefusalLaws.{never_both, counted_written, counted_kept}
 use Rattle.field.specs.Field.{times}
@@ -22,9 +22,7 @@ use Rattle.archive.specs.Layout.{sizes_of, mark_at, byte_in, bad_archive}
 use Rattle.archive.specs.Blocks.{coded}
 use Rattle.archive.specs.Read.{row_in, Blind, among, Enough, ReadFor, ReadAllows}
 use Rattle.archive.specs.Inventory.{shelf, inventory_before, inventory_answer, inventory_out, Listed}
-use Rattle.answer.specs.Counted.{counted, counted_number, counted_value}
-use Rattle.answer.specs.declared.Counted.{Counted}
-use Rattle.answer.specs.declared.Counted.TheVariants.{Count, Refused}
+use Rattle.answer.specs.Counted.{counted, counted_value}
 use Rattle.sizes.proofs.SizeLaws.{Ranged}
 use Rattle.sizes.proofs.PlaceLaws.{count_low, node_of, place_of}
 use Rattle.archive.proofs.BlockLaws.{source_file}
@@ -73,11 +71,11 @@ module _ (s : Setting) (F : Fit s) (t : Table) (fine : AllFine s.z t) where
   abbrev row : ℕ → ℕ → ℕ
   row k = element (numbered s.z t k)
 
-  before_right : (out : List ℕ) (n : ℕ) → length out ≡ n → refuse (bad_archive A) BadArchive (refuse (differs (length out) n) Length Done) ≡ Done
+  before_right : (out : List ℕ) (n : ℕ) → length out ≡ n → refuse (bad_archive A) BadArchive (refuse (differs (length out) n) Length done) ≡ done
   unfolding refuse
   before_right out n e = rw (image_good s F t, eq-eqb (length out) n e)
 
-  before_wrong : (out : List ℕ) (n : ℕ) → length out ≢ n → refuse (bad_archive A) BadArchive (refuse (differs (length out) n) Length Done) ≡ RefusedOutcome Length
+  before_wrong : (out : List ℕ) (n : ℕ) → length out ≢ n → refuse (bad_archive A) BadArchive (refuse (differs (length out) n) Length done) ≡ Err Length
   unfolding refuse
   before_wrong out n e = rw (image_good s F t, ne_eqb (length out) n e)
 
@@ -98,10 +96,10 @@ module _ (s : Setting) (F : Fit s) (t : Table) (fine : AllFine s.z t) where
   abbrev Inventoried : Sizes → List ℕ → Type 0
   Inventoried z out =
       (length out ≡ place_count s.z
-      → (counted (inventory_before z A out) (how_many (place_count z) (mark_at A)) ≡ Count count)
+      → (counted (inventory_before z A out) (how_many (place_count z) (mark_at A)) ≡ Ok count)
       × (afterwards (inventory_before z A out) out (shelf z (mark_at A)) ≡ shelf s.z is_f)
       × Listed s.z (λ node place. is_filled (t node place)) count (afterwards (inventory_before z A out) out (shelf z (mark_at A))))
-      × (length out ≢ place_count s.z → counted_number (counted (inventory_before z A out) (how_many (place_count z) (mark_at A))) ≡ 2)
+      × (length out ≢ place_count s.z → answer_number (counted (inventory_before z A out) (how_many (place_count z) (mark_at A))) ≡ 2)
 
   by_sizes : (out : List ℕ) → Inventoried (sizes_of A) out
   by_sizes out =
@@ -111,14 +109,14 @@ module _ (s : Setting) (F : Fit s) (t : Table) (fine : AllFine s.z t) where
         λ e.
             let w = counted_written out (before_right out _ e) counts shelves in
             (sym w.0, sym w.1, subst (Listed s.z (λ node place. is_filled (t node place)) count) w.1 table_listed),
-        λ e. ap counted_number (sym (counted_kept {before = out} _ out (before_wrong out _ e)).0),
+        λ e. ap answer_number (sym (counted_kept {before = out} _ out (before_wrong out _ e)).0),
       )
 
   pub inventory : (out : List ℕ)
       → (length out ≡ place_count s.z
-      → (inventory_answer A out ≡ Count count) × (inventory_out A out ≡ shelf s.z is_f)
+      → (inventory_answer A out ≡ Ok count) × (inventory_out A out ≡ shelf s.z is_f)
       × Listed s.z (λ node place. is_filled (t node place)) count (inventory_out A out))
-      × (length out ≢ place_count s.z → counted_number (inventory_answer A out) ≡ 2)
+      × (length out ≢ place_count s.z → answer_number (inventory_answer A out) ≡ 2)
   unfolding inventory_answer inventory_out
   inventory = by_sizes
 
@@ -148,15 +146,15 @@ module _ (s : Setting) (F : Fit s) (t : Table) (fine : AllFine s.z t) where
   -- what demand 3 says of an answer and a file
   abbrev Answered : Counted → List ℕ → Type 0
   Answered answer file =
-      ((counted_number answer ≡ 8) ↔ Blind s.z is_f row)
-      × ((¬ Blind s.z is_f row) → (counted_number answer ≡ 0) × (file ≡ s.file) × ((old : ℕ) → Enough s.z is_f row (counted_value answer old)))
+      ((answer_number answer ≡ 8) ↔ Blind s.z is_f row)
+      × ((¬ Blind s.z is_f row) → (answer_number answer ≡ 0) × (file ≡ s.file) × ((old : ℕ) → Enough s.z is_f row (counted_value answer old)))
 
   pub read : length s.file ≡ file_length s.z → Bytes s.file
       → (out : List ℕ) (answer : Counted) (file : List ℕ) → length out ≡ file_length s.z → ReadAllows A out answer file → Answered answer file
   read size bytes out answer file long allows = go answer (subst (λ (z : Sizes). ReadFor z A out answer file) (image_sizes s F t) allows)
     where
       go : (answer : Counted) → ReadFor s.z A out answer file → Answered answer file
-      go (Count k) w = (
+      go (Ok k) w = (
         (λ e. absurd (omega arith), λ b. absurd (w.1 (to_archive b))),
         λ nb. (
           refl,
@@ -164,7 +162,7 @@ module _ (s : Setting) (F : Fit s) (t : Table) (fine : AllFine s.z t) where
           λ old. enough_same s.z _ _ _ _ k mark_is row_is w.3,
         ),
       )
-      go (Refused r) w =
+      go (Err r) w =
           ⊎_elim
           (λ x. absurd (never_both (before_right out _ long) x))
           (λ x. ((λ e. to_table x.2, λ b. ap refusal_number x.1), λ nb. absurd (nb (to_table x.2))))

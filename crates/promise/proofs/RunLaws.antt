@@ -9,8 +9,7 @@ use lib.ListN.{length}
 use borrow.Author.Tests.{leb-false}
 use Rattle.lists.specs.Lists.{at, any_of, any_below}
 use Rattle.lists.proofs.AnyLaws.{none_at, any_below_lem, any_skip, any_last, any_same}
-use Rattle.answer.specs.declared.Outcome.{Outcome}
-use Rattle.answer.specs.declared.Outcome.TheVariants.{Done, Refused}
+use Rattle.answer.specs.Answer.{Outcome, done, Ok, Err}
 use Rattle.answer.specs.declared.Refusal.TheVariants.{Size, Length, NoSuchPlace, PlaceEmpty, PlaceFilled}
 use Rattle.answer.specs.Refusals.{refuse, afterwards}
 use Rattle.answer.proofs.RefusalLaws.{passed, accepted, refuse_same}
@@ -65,7 +64,7 @@ module _ (g : Given) (F : Fit (setting g)) where
   unfolding archive_answer refuse
   image_answer t c = rw (image_good (setting g) F t, image_sizes (setting g) F t) (answer_same g.z _ _ (image_filled (setting g) F t) c)
 
-  image_effect : (t : Table) (c : Call) → table_answer g.z t c ≡ Done → TakesOne g c
+  image_effect : (t : Table) (c : Call) → table_answer g.z t c ≡ done → TakesOne g c
       → effect_for g.z g.id (image (setting g) t) c ≡ image (setting g) (table_effect g.z t c)
   unfolding effect_for answer_for
   image_effect t (encode node place file padding key row) e o =
@@ -81,15 +80,15 @@ module _ (g : Given) (F : Fit (setting g)) where
       image_stored (setting g) F t (λ j. true) target 0 g.z.places _ _ w.0 (omega arith) (λ j h. refl)
       (λ k e h he. image_repaired (setting g) F t helpers q gammas thetas w.1 k e he)
 
-  image_after : (t : Table) (c : Call) → (table_answer g.z t c ≡ Done → TakesOne g c)
+  image_after : (t : Table) (c : Call) → (table_answer g.z t c ≡ done → TakesOne g c)
       → archive_after (image (setting g) t) c ≡ image (setting g) (table_after g.z t c)
   unfolding archive_after afterwards
   image_after t c o = rw (image_answer t c, image_sizes (setting g) F t, image_id (setting g) F t) (go (table_answer g.z t c) refl)
     where
       go : (a : Outcome) → table_answer g.z t c ≡ a
           → afterwards a (image (setting g) t) (effect_for g.z g.id (image (setting g) t) c) ≡ image (setting g) (afterwards a t (table_effect g.z t c))
-      go Done e = image_effect t c e (o e)
-      go (Refused r) e = refl
+      go (Ok _) e = image_effect t c e (o e)
+      go (Err r) e = refl
 
   -- ---- a share gathered
 
@@ -101,7 +100,7 @@ module _ (g : Given) (F : Fit (setting g)) where
       ∙ same_front _ _ (image_front (setting g) F t u))
       ∙ rw (image_sizes (setting g) F t) (gather_same g.z _ _ (image_filled (setting g) F t) node)
 
-  gather_effect : (t u : Table) (node : ℕ) → table_gather g.z t node ≡ Done
+  gather_effect : (t u : Table) (node : ℕ) → table_gather g.z t node ≡ done
       → gathered g.z (image (setting g) t) (image (setting g) u) node ≡ image (setting g) (written node 0 g.z.places (u node) t)
   gather_effect t u node e =
       let there : node < g.z.nodes = leb-false g.z.nodes node (accepted _ _ _ e).0 in
@@ -118,8 +117,8 @@ module _ (g : Given) (F : Fit (setting g)) where
       go : (a : Outcome) → table_gather g.z t node ≡ a
           → afterwards a (image (setting g) t) (gathered g.z (image (setting g) t) (image (setting g) u) node)
           ≡ image (setting g) (afterwards a t (written node 0 g.z.places (u node) t))
-      go Done e = gather_effect t u node e
-      go (Refused r) e = refl
+      go (Ok _) e = gather_effect t u node e
+      go (Err r) e = refl
 
   -- ---- every list of calls
 

@@ -8,7 +8,7 @@ use native.Mathlib.Omega.{arith}
 use Rattle.lists.specs.Lists.{at, tab, zero_padded, any_of, any_below, bit, how_many, filtered, Bytes}
 use Rattle.answer.specs.declared.Refusal.{Refusal}
 use Rattle.answer.specs.declared.Refusal.TheVariants.{Size, Length, BadArchive, NoSuchPlace, PlaceEmpty, PlaceFilled, ZeroKeyVector, Unreadable, Malformed, ProvesNothing, NoPlan}
-use Rattle.answer.specs.declared.Outcome.TheVariants.{Done}
+use Rattle.answer.specs.Answer.{done, Ok}
 use Rattle.answer.specs.Numbers.{refusal_number}
 use Rattle.answer.specs.Refusals.{refuse, afterwards, outside}
 use Rattle.bits.specs.Fields.{bit_of, bits_of, widths, number, packed, pack, bit_at, field_at}
@@ -18,8 +18,7 @@ use Rattle.message.proofs.ChallengeLaws.{in_rule, asked_even, asked_rule, asked_
 use Rattle.archive.specs.Layout.{layout_outside, tag_field, layout_of, sizes_of, mark_at, bad_for, bad_archive}
 use Rattle.archive.specs.Open.{open_answer}
 use Rattle.archive.specs.Inventory.{shelf, inventory_answer, inventory_out}
-use Rattle.answer.specs.declared.Counted.TheVariants.{Count}
-use Rattle.answer.specs.Counted.{counted_number}
+use Rattle.answer.specs.Numbers.{answer_number}
 use Rattle.sizes.proofs.SizeLaws.{ranged}
 use Rattle.promise.specs.Worked as W
 use Rattle.promise.specs.SmallCases.{headed, SmallCases}
@@ -40,7 +39,7 @@ not_ten Malformed e = omega arith
 not_ten ProvesNothing e = omega arith
 not_ten NoPlan e = omega arith
 
-both_back : (c : Challenge) (lent : List ℕ) → challenge_answer c lent ≡ Done → Bytes c.coefficients
+both_back : (c : Challenge) (lent : List ℕ) → challenge_answer c lent ≡ done → Bytes c.coefficients
     → (challenge_of (challenge_out c lent) ≡ c) × (malformed_challenge (challenge_out c lent) ≡ false)
 both_back c lent asked bytes =
     let R = in_rule c (asked_rule c lent asked) in
@@ -50,13 +49,13 @@ both_back c lent asked bytes =
 -- ---- Inventory of the archive with two places
 
 two_listed : (a b c : ℕ)
-    → (inventory_answer W.two (a ∷ b ∷ c ∷ []) ≡ Count 2) × (inventory_out W.two (a ∷ b ∷ c ∷ []) ≡ 0x00 ∷ 0x10 ∷ 0x00 ∷ [])
+    → (inventory_answer W.two (a ∷ b ∷ c ∷ []) ≡ Ok 2) × (inventory_out W.two (a ∷ b ∷ c ∷ []) ≡ 0x00 ∷ 0x10 ∷ 0x00 ∷ [])
 unfolding inventory_answer inventory_out refuse afterwards bad_for layout_outside tag_field layout_of sizes_outside outside any_of any_below sizes_of field_at bit_at number mark_at how_many shelf zero_padded filtered tab
 two_listed a b c = (refl, refl)
 
 lent_wrong : (a b : ℕ)
-    → (counted_number (inventory_answer W.two (a ∷ b ∷ [])) ≡ 2) × (inventory_out W.two (a ∷ b ∷ []) ≡ a ∷ b ∷ [])
-    × (counted_number (inventory_answer W.two []) ≡ 2)
+    → (answer_number (inventory_answer W.two (a ∷ b ∷ [])) ≡ 2) × (inventory_out W.two (a ∷ b ∷ []) ≡ a ∷ b ∷ [])
+    × (answer_number (inventory_answer W.two []) ≡ 2)
 unfolding inventory_answer inventory_out refuse afterwards bad_for layout_outside tag_field layout_of sizes_outside outside any_of any_below sizes_of field_at bit_at number mark_at
 lent_wrong a b = (refl, refl, refl)
 

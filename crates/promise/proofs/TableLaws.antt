@@ -15,8 +15,7 @@ use Rattle.lists.specs.Lists.{pick, over, Bytes}
 use Rattle.lists.proofs.TabLaws.{order, length_tab, tab_at}
 use Rattle.lists.proofs.OverLaws.{over_within, over_below, over_above}
 use Rattle.lists.proofs.AnyLaws.{none_at, pick_same}
-use Rattle.answer.specs.declared.Outcome.{Outcome}
-use Rattle.answer.specs.declared.Outcome.TheVariants.{Done, Refused}
+use Rattle.answer.specs.Answer.{Outcome, done, Ok, Err}
 use Rattle.answer.specs.Refusals.{afterwards}
 use Rattle.answer.proofs.RefusalLaws.{accepted, same}
 use Rattle.field.proofs.SumLaws.{sum_lt}
@@ -131,7 +130,7 @@ repaired_fine z t helpers q gammas thetas k =
     (length_tab z.m _, λ e h. rw (tab_at z.m _ e (rw length_tab at h)) (sum_lt 8 (length helpers) _ (λ i hi. sum_lt 8 q _ (λ j hj. times_lt _ _))))
 
 module _ (g : Given) where
-  effect_fine : (t : Table) → AllFine g.z t → (c : Call) → table_answer g.z t c ≡ Done → TakesOne g c → AllFine g.z (table_effect g.z t c)
+  effect_fine : (t : Table) → AllFine g.z t → (c : Call) → table_answer g.z t c ≡ done → TakesOne g c → AllFine g.z (table_effect g.z t c)
   unfolding answer_for
   effect_fine t ht (encode node place file padding key row) e o =
       written_fine g.z node place _ _ t
@@ -140,13 +139,13 @@ module _ (g : Given) where
   effect_fine t ht (repair target helpers q gammas thetas scratch) e o =
       written_fine g.z target 0 _ _ t (λ k. repaired_fine g.z t helpers q gammas thetas k) ht
 
-  after_fine : (t : Table) → AllFine g.z t → (c : Call) → (table_answer g.z t c ≡ Done → TakesOne g c) → AllFine g.z (table_after g.z t c)
+  after_fine : (t : Table) → AllFine g.z t → (c : Call) → (table_answer g.z t c ≡ done → TakesOne g c) → AllFine g.z (table_after g.z t c)
   unfolding afterwards
   after_fine t ht c o = go (table_answer g.z t c) refl
     where
       go : (a : Outcome) → table_answer g.z t c ≡ a → AllFine g.z (afterwards a t (table_effect g.z t c))
-      go Done e = effect_fine t ht c e (o e)
-      go (Refused r) e = ht
+      go (Ok _) e = effect_fine t ht c e (o e)
+      go (Err r) e = ht
 
   pub run_fine : (t : Table) → AllFine g.z t → (calls : List Call) → Admitted g t calls → AllFine g.z (table_run g.z t calls)
   run_fine t ht [] a = ht

@@ -13,7 +13,7 @@ use Rattle.lists.proofs.TabLaws.{order}
 use Rattle.lists.proofs.AnyLaws.{pick_same, pick_test}
 use Rattle.lists.proofs.FilterLaws.{length_filtered, filtered_all}
 use Rattle.lists.proofs.HoldLaws.{filtered_holds}
-use Rattle.answer.specs.declared.Outcome.TheVariants.{Done}
+use Rattle.answer.specs.Answer.{done}
 use Rattle.sizes.specs.declared.Sizes.{Sizes}
 use Rattle.sizes.specs.Lengths.{place_count, place_number}
 use Rattle.sizes.proofs.SizeLaws.{Ranged}
@@ -100,8 +100,8 @@ module _ (s : List ℕ) (are-bytes : Bytes s) (good : bad_archive s ≡ false) w
     no_mark : (place : ℕ) → place < z.places → mark keep (place_number z node place) ≡ false
     no_mark place h = rw (digits_div node h, empty)
 
-    done : gather_answer into share node ≡ Done
-    done = gather_done s refl good w (keeps (node ∷ [])) (kept_unused keep) (kept_unused (holds (node ∷ []))) node there no_mark
+    gathers : gather_answer into share node ≡ done
+    gathers = gather_done s refl good w (keeps (node ∷ [])) (kept_unused keep) (kept_unused (holds (node ∷ []))) node there no_mark
 
     after : gather_after into share node ≡ gathered z into share node
     after = after_gather s refl good w (keeps (node ∷ [])) (kept_unused keep) (kept_unused (holds (node ∷ []))) node there no_mark
@@ -141,7 +141,7 @@ module _ (s : List ℕ) (are-bytes : Bytes s) (good : bad_archive s ≡ false) w
       gather_all set (λ v. pick (eqb v node) true (keep v)) (gather_after into (share_of s node) node) (next keep into w node once.0 empty)
       (next_tidy keep into w node once.0 empty) once.2 (apart keep node set once.1 none) in
       record {
-        all_done = (done keep into w node once.0 empty, rest.all_done);
+        all_done = (gathers keep into w node once.0 empty, rest.all_done);
         parts = kept_alike (λ v. both (holds set v) (eqb v node) true (keep v)) rest.parts;
         bytes = rest.bytes;
       }

@@ -27,19 +27,18 @@ use Rattle.archive.specs.Layout.{layout_outside, tag_field, layout_of, sizes_of,
 use Rattle.archive.specs.Blocks.{source, coded, coded_record}
 use Rattle.archive.specs.Prove.{named_byte}
 use Rattle.archive.specs.Read.{row_in, Blind, among, Solved, read_before, ReadFor, ReadAllows}
-use Rattle.answer.specs.declared.Outcome.TheVariants.{Done}
+use Rattle.answer.specs.Answer.{done, Ok, Err}
 use Rattle.answer.specs.declared.Refusal.TheVariants.{Unreadable}
-use Rattle.answer.specs.declared.Counted.TheVariants.{Count, Refused}
 use Rattle.promise.specs.Worked as W
 use Rattle.promise.proofs.Each.{bytes_each}
 
 -- ---- Read: the archive with two places
 
-two_before : read_before W.z W.two (0 ∷ 0 ∷ []) ≡ Done
+two_before : read_before W.z W.two (0 ∷ 0 ∷ []) ≡ done
 unfolding refuse bad_for layout_outside tag_field layout_of sizes_outside outside any_of any_below sizes_of field_at bit_at number mark_at byte_in
 two_before = refl
 
-one_before : read_before W.z W.one (0 ∷ 0 ∷ []) ≡ Done
+one_before : read_before W.z W.one (0 ∷ 0 ∷ []) ≡ done
 unfolding refuse bad_for layout_outside tag_field layout_of sizes_outside outside any_of any_below sizes_of field_at bit_at number mark_at byte_in
 one_before = refl
 
@@ -141,9 +140,9 @@ two_solved =
       solves = solves;
     }
 
-reads_two : ReadAllows W.two (0 ∷ 0 ∷ []) (Count 2) (0x57 ∷ 0x01 ∷ [])
+reads_two : ReadAllows W.two (0 ∷ 0 ∷ []) (Ok 2) (0x57 ∷ 0x01 ∷ [])
 reads_two =
-    subst (λ (z : Sizes). ReadFor z W.two (0 ∷ 0 ∷ []) (Count 2) (0x57 ∷ 0x01 ∷ [])) (sym two_sizes) (
+    subst (λ (z : Sizes). ReadFor z W.two (0 ∷ 0 ∷ []) (Ok 2) (0x57 ∷ 0x01 ∷ [])) (sym two_sizes) (
       two_before,
       sighted (mark_at W.two) first_marked third_marked,
       two_solved,
@@ -159,9 +158,9 @@ one_orthogonal (suc zero) h t = absurd (unlike t refl)
 one_orthogonal (suc (suc zero)) h t = absurd (unlike t refl)
 one_orthogonal (suc (suc (suc k))) h t = absurd (omega arith)
 
-reads_one : ReadAllows W.one (0 ∷ 0 ∷ []) (Refused Unreadable) (0 ∷ 0 ∷ [])
+reads_one : ReadAllows W.one (0 ∷ 0 ∷ []) (Err Unreadable) (0 ∷ 0 ∷ [])
 reads_one =
-    subst (λ (z : Sizes). ReadFor z W.one (0 ∷ 0 ∷ []) (Refused Unreadable) (0 ∷ 0 ∷ [])) (sym one_sizes) (
+    subst (λ (z : Sizes). ReadFor z W.one (0 ∷ 0 ∷ []) (Err Unreadable) (0 ∷ 0 ∷ [])) (sym one_sizes) (
       refl,
       inr (
         one_before,

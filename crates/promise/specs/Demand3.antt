@@ -1,7 +1,7 @@
 -- Demand 3 (docs/STATEMENT.md): one claim about a whole list of calls.
 use Rattle.std.specs.Prelude.{ℕ, ◌+◌, ◌<◌, ◌≡◌, ◌↔◌, ◌≢◌, Bool, true, List, [], ◌∷◌, length}
 use Rattle.lists.specs.Lists.{at, tab, flat, how_many, Bytes}
-use Rattle.answer.specs.declared.Outcome.TheVariants.{Done}
+use Rattle.answer.specs.Answer.{Answer, Counted, done, Ok, Err}
 use Rattle.answer.specs.declared.Refusal.TheVariants.{ProvesNothing}
 use Rattle.field.specs.Field.{plus}
 use Rattle.sizes.specs.declared.Sizes.{Sizes}
@@ -12,7 +12,7 @@ use Rattle.message.specs.Response.{data_in, sum_in, tag_in}
 use Rattle.message.specs.Challenge.{Challenge, challenge_answer, challenge_out}
 use Rattle.audit.specs.Verdict.{verdict_of}
 use Rattle.audit.specs.declared.Judgement.{Judgement}
-use Rattle.audit.specs.declared.Judgement.TheVariants.{Accepted, Rejected, Refused}
+use Rattle.audit.specs.declared.Judgement.TheVariants.{Accepted, Rejected}
 use Rattle.archive.specs.Layout.{mark_at, byte_in}
 use Rattle.archive.specs.Open.{open_answer, open_out}
 use Rattle.archive.specs.Blocks.{coded}
@@ -20,9 +20,8 @@ use Rattle.archive.specs.Calls.{Call, encode, lose, repair, archive_answers, arc
 use Rattle.archive.specs.Prove.{prove_answer, response_for, prove_out}
 use Rattle.archive.specs.Read.{row_in, Blind, Enough, ReadAllows}
 use Rattle.archive.specs.Inventory.{shelf, inventory_answer, inventory_out, Listed}
-use Rattle.answer.specs.Counted.{counted_number, counted_value}
-use Rattle.answer.specs.declared.Counted.{Counted}
-use Rattle.answer.specs.declared.Counted.TheVariants.{Count}
+use Rattle.answer.specs.Numbers.{answer_number}
+use Rattle.answer.specs.Counted.{counted_value}
 use Rattle.promise.specs.Table.{filled, Table, all_empty, is_filled, element, numbered, table_answer, table_after, table_answers, table_run}
 use Rattle.promise.specs.Image.{Setting, vector}
 
@@ -35,7 +34,7 @@ pub record Given : Type 0 where
   pub id : List ℕ
   -- what Open was lent
   pub lent : List ℕ
-  pub open_done : open_answer layout z id lent ≡ Done
+  pub open_done : open_answer layout z id lent ≡ done
   pub file : List ℕ
   pub file_size : length file ≡ file_length z
   pub file_bytes : Bytes file
@@ -45,7 +44,7 @@ pub record Given : Type 0 where
   pub tag_key : List ℕ
   pub mask_key : List ℕ
   pub auxiliary_lent : List ℕ
-  pub setup_done : setup_answer tag_key mask_key id z.n z.tags auxiliary_lent ≡ Done
+  pub setup_done : setup_answer tag_key mask_key id z.n z.tags auxiliary_lent ≡ done
 
 abbrev pub setting : (g : Given) → Setting
 setting g = record { layout = g.layout; z = g.z; id = g.id; file = g.file; padding = g.padding; tag_key = g.tag_key }
@@ -63,7 +62,7 @@ TakesOne g (repair target helpers q gammas thetas scratch) = Unit {0}
 -- so does every Encode that the table accepts; of a refused call nothing is asked
 abbrev pub Admitted : Given → Table → List Call → Type 0
 Admitted g t [] = Unit {0}
-Admitted g t (c ∷ cs) = (table_answer g.z t c ≡ Done → TakesOne g c) × Admitted g (table_after g.z t c) cs
+Admitted g t (c ∷ cs) = (table_answer g.z t c ≡ done → TakesOne g c) × Admitted g (table_after g.z t c) cs
 
 -- ---- an honest audit
 
@@ -71,7 +70,7 @@ Admitted g t (c ∷ cs) = (table_answer g.z t c ≡ Done → TakesOne g c) × Ad
 pub record Honest (g : Given) (t : Table) : Type 0 where
   pub c : Challenge
   pub lent : List ℕ
-  pub asked : challenge_answer c lent ≡ Done
+  pub asked : challenge_answer c lent ≡ done
   pub coefficients_bytes : Bytes c.coefficients
   pub node_there : c.node < g.z.nodes
   pub places_there : (j : ℕ) → j < length c.places → at c.places j < g.z.places
@@ -95,7 +94,7 @@ module _ (g : Given) (t : Table) (archive : List ℕ) (h : Honest g t) where
   node_rows = flat g.z.places g.z.m (λ place. element (t h.c.node place))
 
   -- what Verdict says of a response, by those rows
-  abbrev pub says : List ℕ → Judgement
+  abbrev pub says : List ℕ → Answer Judgement
   says response = verdict_of g.tag_key g.id g.z node_rows message response
 
   -- the table's rows of the named places, combined by the challenge
@@ -123,9 +122,9 @@ module _ (g : Given) (t : Table) (archive : List ℕ) (h : Honest g t) where
       (λ s. product (block_length g.z) named_block (vector (setting g) s))
 
   pub record AuditHolds : Type 0 where
-    pub proves : prove_answer archive g.mask_key (given_auxiliary g) h.seed message h.out ≡ Done
+    pub proves : prove_answer archive g.mask_key (given_auxiliary g) h.seed message h.out ≡ done
     pub sends : sent ≡ expected
-    pub accepts : Telling → says sent ≡ Accepted
+    pub accepts : Telling → says sent ≡ Ok Accepted
 
   -- a change is the sum of two responses' elements at one position; those of the n data elements, times key vector s, are together those
   -- of tag s and mask sum s
@@ -169,10 +168,10 @@ pub record Demand (g : Given) (calls : List Call) (t : Table) (archive : List �
   -- another length, it refuses with 2
   pub inventory : (out : List ℕ)
       → (length out ≡ place_count g.z
-      → (inventory_answer archive out ≡ Count (table_count g.z t))
+      → (inventory_answer archive out ≡ Ok (table_count g.z t))
       × (inventory_out archive out ≡ shelf g.z (table_filled g.z t))
       × Listed g.z (λ node place. is_filled (t node place)) (table_count g.z t) (inventory_out archive out))
-      × (length out ≢ place_count g.z → counted_number (inventory_answer archive out) ≡ 2)
+      × (length out ≢ place_count g.z → answer_number (inventory_answer archive out) ≡ 2)
   -- what stands in each filled place
   pub places : (node place : ℕ) (row : List ℕ) → node < g.z.nodes → place < g.z.places → t node place ≡ filled row
       → HoldsCoded g archive (place_number g.z node place) row
@@ -181,18 +180,18 @@ pub record Demand (g : Given) (calls : List Call) (t : Table) (archive : List �
   -- there another response, of that length and first byte, is accepted if its changes add up, and rejected if they do not
   pub altered : (h : Honest g t) → Telling g t archive h
       → (other : List ℕ) → length other ≡ length (sent g t archive h) → at other 0 ≡ at (sent g t archive h) 0
-      → ((says g t archive h other ≡ Accepted) ↔ ChangesAddUp g t archive h other)
-      × ((says g t archive h other ≡ Rejected) ↔ (¬ ChangesAddUp g t archive h other))
+      → ((says g t archive h other ≡ Ok Accepted) ↔ ChangesAddUp g t archive h other)
+      × ((says g t archive h other ≡ Ok Rejected) ↔ (¬ ChangesAddUp g t archive h other))
   -- where the combined row is zero, every response of that length and first byte is refused by the number 11, and none accepted
   pub unproved : (h : Honest g t) → Silent g t archive h
       → (other : List ℕ) → length other ≡ length (sent g t archive h) → at other 0 ≡ at (sent g t archive h) 0
-      → says g t archive h other ≡ Refused ProvesNothing
+      → says g t archive h other ≡ Err ProvesNothing
   -- Read, lent the file's length, gives back the file, or refuses with 8 if and only if the table's rows leave something open; the
   -- places that it consulted are enough of the table's too
   pub read : (out : List ℕ) (answer : Counted) (file : List ℕ) → length out ≡ file_length g.z → ReadAllows archive out answer file
-      → ((counted_number answer ≡ 8) ↔ TableBlind g.z t)
+      → ((answer_number answer ≡ 8) ↔ TableBlind g.z t)
       × ((¬ TableBlind g.z t)
-      → (counted_number answer ≡ 0) × (file ≡ g.file)
+      → (answer_number answer ≡ 0) × (file ≡ g.file)
       × ((old : ℕ) → Enough g.z (table_filled g.z t) (λ k. element (numbered g.z t k)) (counted_value answer old)))
 
 -- for every list of calls, on the archive and on a table that was empty at first

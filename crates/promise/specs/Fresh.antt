@@ -1,7 +1,7 @@
 -- A rebuilt archive is a fresh one (SCHEME, Row table): what any list of calls leaves has the bytes of a new archive into which the table's rows
 -- are encoded.
 use Rattle.std.specs.Prelude.{ℕ, zero, suc, ◌+◌, ◌/◌, ◌%◌, ◌<◌, ◌≡◌, List, [], ◌∷◌, length}
-use Rattle.answer.specs.declared.Outcome.TheVariants.{Done}
+use Rattle.answer.specs.Answer.{done}
 use Rattle.sizes.specs.Lengths.{place_count, archive_length}
 use Rattle.archive.specs.Open.{open_answer, open_out}
 use Rattle.archive.specs.Calls.{Call, encode, archive_answers, archive_run, all_done}
@@ -34,7 +34,7 @@ new_archive g lent = open_out g.layout g.z g.id lent
 
 -- on a lent buffer Open is done, each of those Encodes is done, and the bytes are then all those that the calls left
 pub record Fresh (g : Given) (calls : List Call) (lent : List ℕ) : Type 0 where
-  pub opens : open_answer g.layout g.z g.id lent ≡ Done
+  pub opens : open_answer g.layout g.z g.id lent ≡ done
   pub encodes : archive_answers (new_archive g lent) (rows_encoded g calls) ≡ all_done (rows_encoded g calls)
   pub same : archive_run (new_archive g g.lent) calls ≡ archive_run (new_archive g lent) (rows_encoded g calls)
 

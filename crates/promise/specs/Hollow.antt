@@ -2,7 +2,7 @@
 -- out. The numbers are those of the worked values and of the life in numbers.
 use Rattle.std.specs.Prelude.{ℕ, ◌+◌, ◌*◌, ◌<◌, ◌≡◌, ◌≢◌, Bool, true, false, List, [], ◌∷◌, ◌++◌, eqb, length}
 use Rattle.lists.specs.Lists.{at, tab, put, how_many}
-use Rattle.answer.specs.declared.Outcome.TheVariants.{Done, Refused as RefusedOutcome}
+use Rattle.answer.specs.Answer.{Answer, done, Ok, Err}
 use Rattle.answer.specs.declared.Refusal.TheVariants.{BadArchive, PlaceFilled, Unreadable, ZeroKeyVector, Malformed, ProvesNothing}
 use Rattle.field.specs.Field.{plus}
 use Rattle.vector.specs.Vectors.{product}
@@ -11,7 +11,7 @@ use Rattle.mask.specs.Setup.{setup_answer}
 use Rattle.message.specs.Response.{tag_in}
 use Rattle.message.specs.Challenge.{challenge_for, challenge_bytes}
 use Rattle.audit.specs.declared.Judgement.{Judgement}
-use Rattle.audit.specs.declared.Judgement.TheVariants.{Rejected, Refused as RefusedJudgement}
+use Rattle.audit.specs.declared.Judgement.TheVariants.{Rejected}
 use Rattle.audit.specs.Verdict.{named_row, appended, accepts, verdict_of}
 use Rattle.sizes.specs.Lengths.{record_length, place_number, place_count}
 use Rattle.archive.specs.Layout.{sizes_of, mark_at, byte_in, with_marks}
@@ -21,7 +21,6 @@ use Rattle.archive.specs.Read.{row_in, Blind, Enough, ReadAllows}
 use Rattle.archive.specs.Inventory.{inventory_answer, inventory_out}
 use Rattle.archive.specs.Gather.{gather_answer, gather_after}
 use Rattle.archive.specs.Told.{rows_out}
-use Rattle.answer.specs.declared.Counted.TheVariants.{Count, Refused}
 use Rattle.promise.specs.Shares.{keeping}
 use Rattle.promise.specs.Worked as W
 use Rattle.promise.specs.Life as L
@@ -45,7 +44,7 @@ three_agree = accepts (L.z 3) (λ s e. at (L.three).vector_bytes (s * 5 + e)) (a
 
 -- what Verdict says of a response that is zeros behind its first byte, by the life's key and sizes, two rows and a challenge for both
 -- places of node 2
-abbrev pub of_zeros : (first : ℕ) (rows coefficients : List ℕ) → Judgement
+abbrev pub of_zeros : (first : ℕ) (rows coefficients : List ℕ) → Answer Judgement
 of_zeros first rows coefficients =
     verdict_of L.tag_key L.id (L.z 1) rows (challenge_bytes (challenge_for 2 (0 ∷ 1 ∷ []) coefficients))
     (first ∷ tab 16 (λ i. 0))
@@ -76,20 +75,20 @@ pub record Hollow : Type 0 where
   pub tags_1_and_2_add_up : three_agree (altered 0x01 (at (0x00 ∷ 0x2d ∷ 0x12 ∷ []))) ≡ false
   pub all_add_up : three_agree (altered 0x01 (at (0x04 ∷ 0x2d ∷ 0x12 ∷ []))) ≡ true
   -- a Verdict that accepts where any box could answer: equal rows cancel, and so do a row and its double (`unproved`)
-  pub rows_cancel : of_zeros 0x24 (0x02 ∷ 0x03 ∷ 0x02 ∷ 0x03 ∷ []) (0x05 ∷ 0x05 ∷ []) ≡ RefusedJudgement ProvesNothing
-  pub multiples_cancel : of_zeros 0x24 (0x02 ∷ 0x03 ∷ 0x04 ∷ 0x06 ∷ []) (0x02 ∷ 0x01 ∷ []) ≡ RefusedJudgement ProvesNothing
-  pub no_coefficient : of_zeros 0x24 (0x02 ∷ 0x03 ∷ 0x04 ∷ 0x05 ∷ []) (0x00 ∷ 0x00 ∷ []) ≡ RefusedJudgement ProvesNothing
+  pub rows_cancel : of_zeros 0x24 (0x02 ∷ 0x03 ∷ 0x02 ∷ 0x03 ∷ []) (0x05 ∷ 0x05 ∷ []) ≡ Err ProvesNothing
+  pub multiples_cancel : of_zeros 0x24 (0x02 ∷ 0x03 ∷ 0x04 ∷ 0x06 ∷ []) (0x02 ∷ 0x01 ∷ []) ≡ Err ProvesNothing
+  pub no_coefficient : of_zeros 0x24 (0x02 ∷ 0x03 ∷ 0x04 ∷ 0x05 ∷ []) (0x00 ∷ 0x00 ∷ []) ≡ Err ProvesNothing
   -- one that looks at the first or the last element of the combined row alone, or at the response in its place: these are judged
-  pub first_cancels : of_zeros 0x24 (0x02 ∷ 0x03 ∷ 0x02 ∷ 0x04 ∷ []) (0x05 ∷ 0x05 ∷ []) ≡ Rejected
-  pub last_cancels : of_zeros 0x24 (0x02 ∷ 0x03 ∷ 0x04 ∷ 0x03 ∷ []) (0x05 ∷ 0x05 ∷ []) ≡ Rejected
-  pub none_cancels : of_zeros 0x24 (0x02 ∷ 0x03 ∷ 0x02 ∷ 0x03 ∷ []) (0x05 ∷ 0x04 ∷ []) ≡ Rejected
+  pub first_cancels : of_zeros 0x24 (0x02 ∷ 0x03 ∷ 0x02 ∷ 0x04 ∷ []) (0x05 ∷ 0x05 ∷ []) ≡ Ok Rejected
+  pub last_cancels : of_zeros 0x24 (0x02 ∷ 0x03 ∷ 0x04 ∷ 0x03 ∷ []) (0x05 ∷ 0x05 ∷ []) ≡ Ok Rejected
+  pub none_cancels : of_zeros 0x24 (0x02 ∷ 0x03 ∷ 0x02 ∷ 0x03 ∷ []) (0x05 ∷ 0x04 ∷ []) ≡ Ok Rejected
   -- one that says so before it looks at the response's first byte
-  pub nine_first : of_zeros 0x22 (0x02 ∷ 0x03 ∷ 0x02 ∷ 0x03 ∷ []) (0x05 ∷ 0x05 ∷ []) ≡ RefusedJudgement Malformed
+  pub nine_first : of_zeros 0x22 (0x02 ∷ 0x03 ∷ 0x02 ∷ 0x03 ∷ []) (0x05 ∷ 0x05 ∷ []) ≡ Err Malformed
   -- a Setup that looks at vector 0: one tag is accepted, two are refused for vector 1
-  pub vector_0_taken : setup_answer zero_second L.mask_key L.id 3 1 (0 ∷ 0 ∷ []) ≡ Done
-  pub vector_1_found : setup_answer zero_second L.mask_key L.id 3 2 (0 ∷ 0 ∷ 0 ∷ 0 ∷ []) ≡ RefusedOutcome ZeroKeyVector
+  pub vector_0_taken : setup_answer zero_second L.mask_key L.id 3 1 (0 ∷ 0 ∷ []) ≡ done
+  pub vector_1_found : setup_answer zero_second L.mask_key L.id 3 2 (0 ∷ 0 ∷ 0 ∷ 0 ∷ []) ≡ Err ZeroKeyVector
   -- refusing everything: some call is accepted (`answers`)
-  pub accepted : archive_answer fresh first_call ≡ Done
+  pub accepted : archive_answer fresh first_call ≡ done
   -- a Repair that only marks, or keeps a helper's tag: the place holds these bytes, the last of them a tag that no helper had (`places`)
   pub repaired_bytes : tab (record_length (L.z 1)) (byte_in (L.z 1) (L.archive 1 1) (place_number (L.z 1) 2 0))
       ≡ 0x2a ∷ 0xf3 ∷ 0xd5 ∷ 0xf3 ∷ 0xfe ∷ 0xbd ∷ []
@@ -102,22 +101,22 @@ pub record Hollow : Type 0 where
   pub emptied : archive_run fresh (first_call ∷ lose 0 ∷ []) ≡ fresh
   pub unmarked : with_marks (λ k. false) (archive_after fresh first_call) ≢ fresh
   -- a Gather that compares four bytes of the header: a share of another id is refused, its last byte too
-  pub other_id : gather_answer (keeping ended []) (put 1 11 (λ i. 0x09) ended) 1 ≡ RefusedOutcome BadArchive
+  pub other_id : gather_answer (keeping ended []) (put 1 11 (λ i. 0x09) ended) 1 ≡ Err BadArchive
   -- one that gathers over filled places
-  pub no_overwriting : gather_answer ended ended 2 ≡ RefusedOutcome PlaceFilled
+  pub no_overwriting : gather_answer ended ended 2 ≡ Err PlaceFilled
   -- one that takes the records of filled places alone: a byte in an empty place's record comes along, and no mark with it
   pub empty_too : gather_after (keeping ended []) (put 1 18 (λ i. 0x01) ended) 0 ≡ put 1 18 (λ i. 0x01) (keeping ended [])
   -- a Rows that goes by records and not by marks: node 0 is empty, whatever stands where its first row would
   pub unmarked_row : (out : List ℕ) → length out ≡ 4 → rows_out (put 2 21 (λ i. 0x01) ended) 0 out ≡ 0x00 ∷ 0x00 ∷ 0x00 ∷ 0x00 ∷ []
   -- a Read that does not look: 8 comes with a vector that is orthogonal to every filled row
-  pub seen : (s out written : List ℕ) → ReadAllows s out (Refused Unreadable) written → Blind (sizes_of s) (mark_at s) (row_in (sizes_of s) s)
+  pub seen : (s out written : List ℕ) → ReadAllows s out (Err Unreadable) written → Blind (sizes_of s) (mark_at s) (row_in (sizes_of s) s)
   -- an invented number from Inventory: it is that of the filled places
-  pub counted : (s out : List ℕ) (count : ℕ) → inventory_answer s out ≡ Count count → count ≡ how_many (place_count (sizes_of s)) (mark_at s)
+  pub counted : (s out : List ℕ) (count : ℕ) → inventory_answer s out ≡ Ok count → count ≡ how_many (place_count (sizes_of s)) (mark_at s)
   -- an Inventory that goes by place, then box, one that falls, and one with its zeros in front: none lists the life's archive so
   pub shelved : (out : List ℕ) → length out ≡ 6
       → (inventory_out (L.archive 1 1) out ≢ 0x08 ∷ 0x10 ∷ 0x09 ∷ 0x11 ∷ 0x00 ∷ 0x00 ∷ [])
       × (inventory_out (L.archive 1 1) out ≢ 0x11 ∷ 0x10 ∷ 0x09 ∷ 0x08 ∷ 0x00 ∷ 0x00 ∷ [])
       × (inventory_out (L.archive 1 1) out ≢ 0x00 ∷ 0x00 ∷ 0x08 ∷ 0x09 ∷ 0x10 ∷ 0x11 ∷ [])
   -- too small a number from Read: at least m places were consulted, and they suffice
-  pub consulted : (s out file : List ℕ) (count : ℕ) → ReadAllows s out (Count count) file
+  pub consulted : (s out file : List ℕ) (count : ℕ) → ReadAllows s out (Ok count) file
       → Enough (sizes_of s) (mark_at s) (row_in (sizes_of s) s) count

@@ -3,14 +3,13 @@
 -- proves nothing.
 use Rattle.std.specs.Prelude.{ℕ, ◌-◌, ◌*◌, ◌≡◌, refl, List, [], ◌∷◌, ◌++◌, length, take, drop}
 use Rattle.lists.specs.Lists.{at, tab, flat, zero_padded, Bytes}
-use Rattle.answer.specs.declared.Outcome.TheVariants.{Done, Refused}
-use Rattle.answer.specs.declared.Counted.TheVariants.{Count}
+use Rattle.answer.specs.Answer.{done, Ok, Err}
 use Rattle.answer.specs.declared.Refusal.TheVariants.{Length, NoSuchPlace, PlaceEmpty, PlaceFilled, ProvesNothing}
 use Rattle.sizes.specs.declared.Sizes.{Sizes}
 use Rattle.sizes.specs.Lengths.{record_length, archive_length, record_start, auxiliary_length}
 use Rattle.tag.specs.Vector.{vector_out}
 use Rattle.mask.specs.Setup.{setup_answer}
-use Rattle.audit.specs.declared.Judgement.TheVariants.{Accepted, Refused as RefusedJudgement}
+use Rattle.audit.specs.declared.Judgement.TheVariants.{Accepted}
 use Rattle.archive.specs.Layout.{layout_of, sizes_of}
 use Rattle.archive.specs.Open.{open_answer, open_out}
 use Rattle.archive.specs.Gather.{gather_answer, gather_after}
@@ -86,8 +85,8 @@ abbrev pub lent_auxiliary : (tags : ℕ) → List ℕ
 lent_auxiliary tags = tab (auxiliary_length 3 tags) (λ i. 0)
 
 -- the setting, once Open and Setup have accepted it
-abbrev pub given : (layout tags : ℕ) → open_answer layout (z tags) id (lent tags) ≡ Done
-    → setup_answer tag_key mask_key id 3 tags (lent_auxiliary tags) ≡ Done → Bytes file → Given
+abbrev pub given : (layout tags : ℕ) → open_answer layout (z tags) id (lent tags) ≡ done
+    → setup_answer tag_key mask_key id 3 tags (lent_auxiliary tags) ≡ done → Bytes file → Given
 given layout tags opens sets_up bytes =
     record {
       layout = layout;
@@ -166,10 +165,10 @@ alone tags mark node s =
 
 -- what an archive in which the life ended tells of itself, and its shares
 pub record Shared (w : Numbers) (s : List ℕ) : Type 0 where
-  pub sizes_are : (sizes_answer s ≡ Done) × (layout_of s ≡ w.layout) × (sizes_of s ≡ z w.tags)
+  pub sizes_are : (sizes_answer s ≡ done) × (layout_of s ≡ w.layout) × (sizes_of s ≡ z w.tags)
   -- whatever Rows is lent: zeros for node 0, which is lost, and the rows of nodes 1 and 2
   pub rows_are : (out : List ℕ) → length out ≡ 4
-      → (rows_answer s 0 out ≡ Done) × (rows_answer s 1 out ≡ Done) × (rows_answer s 2 out ≡ Done)
+      → (rows_answer s 0 out ≡ done) × (rows_answer s 1 out ≡ done) × (rows_answer s 2 out ≡ done)
       × (rows_out s 0 out ≡ 0x00 ∷ 0x00 ∷ 0x00 ∷ 0x00 ∷ [])
       × (rows_out s 1 out ≡ 0x53 ∷ 0xca ∷ 0x00 ∷ 0x00 ∷ [])
       × (rows_out s 2 out ≡ 0xf3 ∷ 0xfe ∷ 0x72 ∷ 0xfb ∷ [])
@@ -179,36 +178,36 @@ pub record Shared (w : Numbers) (s : List ℕ) : Type 0 where
   pub whole_again : GathersDone s (keeping s []) (2 ∷ 1 ∷ 0 ∷ []) × (gather_run s (keeping s []) (2 ∷ 1 ∷ 0 ∷ []) ≡ s)
 
 pub record Lived (w : Numbers) : Type 0 where
-  pub opens : open_answer w.layout (z w.tags) id (lent w.tags) ≡ Done
-  pub sets_up : setup_answer tag_key mask_key id 3 w.tags (lent_auxiliary w.tags) ≡ Done
+  pub opens : open_answer w.layout (z w.tags) id (lent w.tags) ≡ done
+  pub sets_up : setup_answer tag_key mask_key id 3 w.tags (lent_auxiliary w.tags) ≡ done
   pub file_bytes : Bytes file
   pub admitted : Admitted (given w.layout w.tags opens sets_up file_bytes) all_empty (calls w.tags)
   pub answers : archive_answers (open_out w.layout (z w.tags) id (lent w.tags)) (calls w.tags)
-      ≡ Done ∷ Refused PlaceFilled ∷ Done ∷ Refused Length ∷ Done ∷ Refused PlaceEmpty ∷ Done ∷ Refused NoSuchPlace ∷ Done ∷ Done ∷ []
+      ≡ done ∷ Err PlaceFilled ∷ done ∷ Err Length ∷ done ∷ Err PlaceEmpty ∷ done ∷ Err NoSuchPlace ∷ done ∷ done ∷ []
   pub archive_is : archive w.layout w.tags ≡ w.archive_bytes
   -- the row table's rows, encoded: those four calls; whatever the new archive is lent, they are done and leave the same bytes
   pub fresh_encodes : fresh_calls (setting (given w.layout w.tags opens sets_up file_bytes)) (table w.tags) ≡ encodes
   pub fresh_is : (lent : List ℕ) → length lent ≡ archive_length (z w.tags)
-      → (archive_answers (open_out w.layout (z w.tags) id lent) encodes ≡ Done ∷ Done ∷ Done ∷ Done ∷ [])
+      → (archive_answers (open_out w.layout (z w.tags) id lent) encodes ≡ done ∷ done ∷ done ∷ done ∷ [])
       × (archive_run (open_out w.layout (z w.tags) id lent) encodes ≡ w.archive_bytes)
   pub shared : Shared w (archive w.layout w.tags)
   -- of the owner's two archives, the rows of node 1 encoded on one and those of node 2 on the other: node 2, gathered into the first, makes
   -- the life's archive
   pub merged : (lent : List ℕ) → length lent ≡ archive_length (z w.tags)
       → (gather_answer (archive_run (open_out w.layout (z w.tags) id lent) (take 2 encodes))
-      (archive_run (open_out w.layout (z w.tags) id lent) (drop 2 encodes)) 2 ≡ Done)
+      (archive_run (open_out w.layout (z w.tags) id lent) (drop 2 encodes)) 2 ≡ done)
       × (gather_after (archive_run (open_out w.layout (z w.tags) id lent) (take 2 encodes))
       (archive_run (open_out w.layout (z w.tags) id lent) (drop 2 encodes)) 2 ≡ w.archive_bytes)
   -- whatever Inventory is lent: both places of nodes 1 and 2, in shelf order
   pub inventory_is : (out : List ℕ) → length out ≡ 6
-      → (inventory_answer (archive w.layout w.tags) out ≡ Count 4)
+      → (inventory_answer (archive w.layout w.tags) out ≡ Ok 4)
       × (inventory_out (archive w.layout w.tags) out ≡ 0x08 ∷ 0x09 ∷ 0x10 ∷ 0x11 ∷ 0x00 ∷ 0x00 ∷ [])
   -- whatever Losses is lent: of every size the sets with node 2, and no other
   pub losses_are : (out : List ℕ) → length out ≡ 20
-      → LossesAllows (archive w.layout w.tags) 0 out (Count 0) (zero_padded 20 [])
-      × LossesAllows (archive w.layout w.tags) 1 out (Count 1) (zero_padded 20 (0x04 ∷ []))
-      × LossesAllows (archive w.layout w.tags) 2 out (Count 2) (zero_padded 20 (0x05 ∷ 0x06 ∷ []))
-      × LossesAllows (archive w.layout w.tags) 3 out (Count 1) (zero_padded 20 (0x07 ∷ []))
+      → LossesAllows (archive w.layout w.tags) 0 out (Ok 0) (zero_padded 20 [])
+      × LossesAllows (archive w.layout w.tags) 1 out (Ok 1) (zero_padded 20 (0x04 ∷ []))
+      × LossesAllows (archive w.layout w.tags) 2 out (Ok 2) (zero_padded 20 (0x05 ∷ 0x06 ∷ []))
+      × LossesAllows (archive w.layout w.tags) 3 out (Ok 1) (zero_padded 20 (0x07 ∷ []))
   pub vectors_are : flat w.tags 5 (λ s. at (vector_out tag_key id 3 2 s (tab 5 (λ i. 0)))) ≡ w.vector_bytes
   pub auxiliary_are : given_auxiliary (given w.layout w.tags opens sets_up file_bytes) ≡ w.auxiliary_bytes
   -- node 2, places 0 and 1, coefficients 07 and b5
@@ -219,7 +218,7 @@ pub record Lived (w : Numbers) : Type 0 where
       ≡ w.response_bytes
   pub telling : Telling (given w.layout w.tags opens sets_up file_bytes) (table w.tags) (archive w.layout w.tags) audit
   pub accepted : says (given w.layout w.tags opens sets_up file_bytes) (table w.tags) (archive w.layout w.tags) audit
-      w.response_bytes ≡ Accepted
+      w.response_bytes ≡ Ok Accepted
   -- node 1, place 1, which holds the row 00 00, coefficient 01
   pub silent_audit : Honest (given w.layout w.tags opens sets_up file_bytes) (table w.tags)
   pub silent_message : message (given w.layout w.tags opens sets_up file_bytes) (table w.tags) (archive w.layout w.tags)
@@ -227,4 +226,4 @@ pub record Lived (w : Numbers) : Type 0 where
   pub silent : Silent (given w.layout w.tags opens sets_up file_bytes) (table w.tags) (archive w.layout w.tags) silent_audit
   pub unproved : says (given w.layout w.tags opens sets_up file_bytes) (table w.tags) (archive w.layout w.tags) silent_audit
       (sent (given w.layout w.tags opens sets_up file_bytes) (table w.tags) (archive w.layout w.tags) silent_audit)
-      ≡ RefusedJudgement ProvesNothing
+      ≡ Err ProvesNothing

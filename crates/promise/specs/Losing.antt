@@ -1,8 +1,7 @@
 -- What stands beside Losses: it leaves nothing free, and what it lists is what Lose and Read would show.
 use Rattle.std.specs.Prelude.{ℕ, ◌≡◌, List, [], ◌∷◌, ◌↔◌, length}
-use Rattle.answer.specs.declared.Counted.{Counted}
-use Rattle.answer.specs.declared.Counted.TheVariants.{Count}
-use Rattle.answer.specs.Counted.{counted_number}
+use Rattle.answer.specs.Answer.{Counted, Ok}
+use Rattle.answer.specs.Numbers.{answer_number}
 use Rattle.sizes.specs.Lengths.{file_length}
 use Rattle.archive.specs.Layout.{sizes_of}
 use Rattle.archive.specs.Calls.{Call, lose, archive_answers, archive_run, all_done}
@@ -24,8 +23,8 @@ loses (node ∷ nodes) = lose node ∷ loses nodes
 -- is listed for its size; where it is not listed, Read is done. Any output of the file's length
 abbrev pub LossesAreReads : Type 0
 LossesAreReads =
-    (s lent sets : List ℕ) (k count set : ℕ) → LossesAllows s k lent (Count count) sets → SetOf (sizes_of s) k set
+    (s lent sets : List ℕ) (k count set : ℕ) → LossesAllows s k lent (Ok count) sets → SetOf (sizes_of s) k set
     → (archive_answers s (loses (nodes_in set)) ≡ all_done (loses (nodes_in set)))
     × ((out : List ℕ) (answer : Counted) (file : List ℕ) → length out ≡ file_length (sizes_of s)
     → ReadAllows (archive_run s (loses (nodes_in set))) out answer file
-    → ((counted_number answer ≡ 8) ↔ Stands count sets set) × ((¬ Stands count sets set) → counted_number answer ≡ 0))
+    → ((answer_number answer ≡ 8) ↔ Stands count sets set) × ((¬ Stands count sets set) → answer_number answer ≡ 0))

@@ -1,7 +1,6 @@
 -- What stands beside Plan: it leaves nothing free, Repair gives what was planned, and of an archive only rows are read.
 use Rattle.std.specs.Prelude.{ℕ, ◌*◌, ◌<◌, ◌≡◌, true, false, List, length}
-use Rattle.answer.specs.declared.Outcome.{Outcome}
-use Rattle.answer.specs.declared.Outcome.TheVariants.{Done, Refused}
+use Rattle.answer.specs.Answer.{Outcome, done, Err}
 use Rattle.answer.specs.declared.Refusal.TheVariants.{NoPlan}
 use Rattle.sizes.specs.Lengths.{record_length, place_count, place_number}
 use Rattle.archive.specs.Layout.{sizes_of, mark_at, filled_in, bad_archive}
@@ -18,7 +17,7 @@ PlanIsFixed =
 
 -- a call of Repair on s is done, and the target's places are filled then and hold these rows
 pub record Gives (s rows : List ℕ) (target : ℕ) (call : Call) : Type 0 where
-  pub done : archive_answer s call ≡ Done
+  pub done : archive_answer s call ≡ done
   pub filled : (k : ℕ) → k < (sizes_of s).places → filled_in (sizes_of s) (archive_after s call) target k ≡ true
   pub holds : (k i : ℕ) → k < (sizes_of s).places → i < (sizes_of s).m
       → row_in (sizes_of s) (archive_after s call) (place_number (sizes_of s) target k) i ≡ wanted_row (sizes_of s) rows k i
@@ -28,14 +27,14 @@ pub record Gives (s rows : List ℕ) (target : ℕ) (call : Call) : Type 0 where
 abbrev pub PlannedRepair : Type 0
 PlannedRepair =
     (s helpers : List ℕ) (q : ℕ) (gammas rows lent thetas : List ℕ) (target : ℕ)
-    → PlanAllows s helpers q gammas rows lent Done thetas
+    → PlanAllows s helpers q gammas rows lent done thetas
     → target < (sizes_of s).nodes → ((k : ℕ) → k < (sizes_of s).places → filled_in (sizes_of s) s target k ≡ false)
     → Gives s rows target (repair target helpers q gammas thetas (length helpers * q * record_length (sizes_of s)))
 
 -- and where 12 is the answer, no thetas give them, to any target and with any scratch buffer
 abbrev pub NoThetas : Type 0
 NoThetas =
-    (s helpers : List ℕ) (q : ℕ) (gammas rows lent written : List ℕ) → PlanAllows s helpers q gammas rows lent (Refused NoPlan) written
+    (s helpers : List ℕ) (q : ℕ) (gammas rows lent written : List ℕ) → PlanAllows s helpers q gammas rows lent (Err NoPlan) written
     → (thetas : List ℕ) (target scratch : ℕ) → ¬ Gives s rows target (repair target helpers q gammas thetas scratch)
 
 -- two archives that are not bad and have the same m, places and nodes, the same marks, and the same stored rows in filled places; layout,

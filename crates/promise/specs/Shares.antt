@@ -1,8 +1,7 @@
 -- Shares (SCHEME, Shares): nodes (the scheme: boxes) keep a share each, and what is gathered from them is the whole archive; demand 3 goes on from it.
 use Rattle.std.specs.Prelude.{ℕ, ◌*◌, ◌<◌, ◌≡◌, true, false, not, List, [], ◌∷◌, length}
 use Rattle.lists.specs.Lists.{flat, filtered, holds, Bytes}
-use Rattle.answer.specs.declared.Outcome.{Outcome}
-use Rattle.answer.specs.declared.Outcome.TheVariants.{Done}
+use Rattle.answer.specs.Answer.{Outcome, done}
 use Rattle.answer.specs.Refusals.{afterwards}
 use Rattle.sizes.specs.declared.Sizes.{Sizes}
 use Rattle.sizes.specs.Lengths.{archive_length}
@@ -39,7 +38,7 @@ gather_run s into (node ∷ set) = gather_run s (gather_after into (share_of s n
 -- each of these gathers is done
 abbrev pub GathersDone : (s into set : List ℕ) → Type 0
 GathersDone s into [] = Unit {0}
-GathersDone s into (node ∷ set) = (gather_answer into (share_of s node) node ≡ Done) × GathersDone s (gather_after into (share_of s node) node) set
+GathersDone s into (node ∷ set) = (gather_answer into (share_of s node) node ≡ done) × GathersDone s (gather_after into (share_of s node) node) set
 
 -- a set of nodes in some order: none comes twice
 abbrev pub EachOnce : (z : Sizes) (set : List ℕ) → Type 0
@@ -87,10 +86,10 @@ pub record GoesOn (g : Given) (t : Table) (archive : List ℕ) : Type 0 where
       → (gather_answer archive share node ≡ table_gather g.z t node)
       × Follows (setting g) (table_gathered g.z t u node) (gather_after archive share node)
   -- Sizes tells what Open was given
-  pub sizes : (sizes_answer archive ≡ Done) × (layout_of archive ≡ g.layout) × (sizes_of archive ≡ g.z)
+  pub sizes : (sizes_answer archive ≡ done) × (layout_of archive ≡ g.layout) × (sizes_of archive ≡ g.z)
   -- Rows gives the table's rows of a node, zeros where a place is empty: those that Verdict takes
   pub rows : (node : ℕ) (out : List ℕ) → node < g.z.nodes → length out ≡ g.z.places * g.z.m
-      → (rows_answer archive node out ≡ Done)
+      → (rows_answer archive node out ≡ done)
       × (rows_out archive node out ≡ flat g.z.places g.z.m (λ place. element (t node place)))
 
 -- every list of calls leaves an archive that follows its table; and whatever follows a table goes on so

@@ -2,7 +2,7 @@
 use Rattle.std.specs.Prelude.{ℕ, ◌+◌, ◌≡◌, true, false, List, [], ◌∷◌, ◌++◌}
 use Rattle.lists.specs.Lists.{at, tab}
 use Rattle.answer.specs.declared.Refusal.TheVariants.{Unreadable}
-use Rattle.answer.specs.Numbers.{outcome_number}
+use Rattle.answer.specs.Numbers.{answer_number}
 use Rattle.field.specs.Field.{plus, times, inverse_of}
 use Rattle.sizes.specs.declared.Sizes.{Sizes}
 use Rattle.vector.specs.Vectors.{product}
@@ -13,8 +13,7 @@ use Rattle.audit.specs.Verdict.{named_row, appended, accepts}
 use Rattle.archive.specs.Blocks.{source, coded_record}
 use Rattle.archive.specs.Prove.{named_byte}
 use Rattle.archive.specs.Read.{ReadAllows}
-use Rattle.answer.specs.Counted.{counted_number}
-use Rattle.answer.specs.declared.Counted.TheVariants.{Count, Refused}
+use Rattle.answer.specs.Answer.{Ok, Err}
 use Rattle.tag.specs.KeyVector.{with_tags}
 
 abbrev pub z : Sizes
@@ -99,9 +98,9 @@ pub record Worked : Type 0 where
   pub changed : accepts z vectors combined (bytes (plus 0xba 0x01) 0x4c 0x02 0x0c 0x06) ≡ false
   pub changed_both : accepts z vectors combined (bytes (plus 0xba 0x01) (plus 0x4c 0x83) 0x02 0x0c 0x06) ≡ true
   -- the challenge, and its bytes
-  pub asked : outcome_number (challenge_answer challenge (0 ∷ 0 ∷ 0 ∷ [])) ≡ 0
+  pub asked : answer_number (challenge_answer challenge (0 ∷ 0 ∷ 0 ∷ [])) ≡ 0
   pub message : challenge_out challenge (0 ∷ 0 ∷ 0 ∷ []) ≡ 0x14 ∷ 0x20 ∷ 0x04 ∷ []
   -- Read of two rows gives the file, of one row 8, and nothing else (`ReadIsFixed`)
-  pub read_two : ReadAllows two (0 ∷ 0 ∷ []) (Count 2) (0x57 ∷ 0x01 ∷ [])
-  pub read_one : ReadAllows one (0 ∷ 0 ∷ []) (Refused Unreadable) (0 ∷ 0 ∷ [])
-  pub eight : counted_number (Refused Unreadable) ≡ 8
+  pub read_two : ReadAllows two (0 ∷ 0 ∷ []) (Ok 2) (0x57 ∷ 0x01 ∷ [])
+  pub read_one : ReadAllows one (0 ∷ 0 ∷ []) (Err Unreadable) (0 ∷ 0 ∷ [])
+  pub eight : answer_number {A = ℕ} (Err Unreadable) ≡ 8

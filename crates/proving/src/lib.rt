@@ -2,39 +2,45 @@
 #![tactic(auto)]
 
 ghost use Rattle.std.specs.Prelude.{◌≡◌, false, not, ℕ, ◌+◌, ◌-◌, ◌<◌, ◌≤◌, length};
-ghost use Rattle.lists.specs.Lists.{at, any_below, put};
+ghost use Rattle.lists.specs.Lists.{at, tab, any_below};
 ghost use Rattle.answer.specs.Refusals.{Passed};
-ghost use Rattle.field.specs.PrivateTables.{FieldTables};
-ghost use Rattle.sizes.specs.Lengths.{response_length, record_length, id_length, n_least, n_most, m_most, tags_most, record_most, seed_length};
-ghost use Rattle.sizes.specs.Lengths.{auxiliary_length, sum_at};
+ghost use Rattle.sizes.specs.Lengths.{response_length, record_length, n_least, n_most, m_most, tags_most, record_most};
+ghost use Rattle.sizes.specs.Lengths.{auxiliary_length};
 ghost use Rattle.mask.specs.Masks.{mask_coefficient, mask_sum};
-ghost use Rattle.message.specs.Challenge.{challenge_of, malformed_challenge, not_there};
+ghost use Rattle.message.specs.Challenge.{challenge_of, not_there};
 ghost use Rattle.archive.specs.Layout.{sizes_of, id_of, filled_in, bad_archive};
 ghost use Rattle.archive.specs.Prove.{prove_answer, response_for, named_byte, proved_for, prove_out};
 
-use answer::{Outcome, Refusal};
+use answer::Refusal;
 use archive::{bad_archive, marked, sizes_in};
 use field::Tables;
 use keystream::Key;
+use mask::{MaskRows, Seed};
+use message::ChallengeMessage;
 use sizes::{record_length, record_start};
 
-// Whether a named place is empty.
-fn any_named_empty(archive: &[u8], message: &[u8]) -> bool
+// Whether named place j is empty.
+fn named_empty(archive: &[u8], challenge: &ChallengeMessage<'_>, j: usize) -> bool
     requires { (bad_archive archive.now ≡ false)
-        × (malformed_challenge message.now ≡ false)
-        × (not_there (sizes_of archive.now) (challenge_of message.now) ≡ false) }
-    ensures { let c = challenge_of message.now in
+        × (not_there (sizes_of archive.now) challenge.now ≡ false)
+        × (j < length challenge.now.places) }
+    ensures { let c = challenge.now in
+        let archive = archive.entry.now in
+        result ≡ not (filled_in (sizes_of archive) archive c.node (at c.places j)) }
+{
+    let z = sizes_in(archive);
+    !marked(archive, challenge.node() * z.places + challenge.place(j))
+}
+
+// Whether a named place is empty.
+fn any_named_empty(archive: &[u8], challenge: &ChallengeMessage<'_>) -> bool
+    requires { (bad_archive archive.now ≡ false)
+        × (not_there (sizes_of archive.now) challenge.now ≡ false) }
+    ensures { let c = challenge.now in
         let archive = archive.entry.now in
         result ≡ any_below (length c.places) (λ j. not (filled_in (sizes_of archive) archive c.node (at c.places j))) }
 {
-    let z = sizes_in(archive);
-    let first = message::node_in(message) * z.places;
-    for j in 0..message::count_in(message) {
-        if !marked(archive, first + message::place_in(message, j)) {
-            return true;
-        }
-    }
-    false
+    (0..challenge.count()).any(|j| named_empty(archive, challenge, j))
 }
 
 // The first refusal of Prove.
@@ -45,7 +51,7 @@ fn prove_check(
     seed: &[u8],
     message: &[u8],
     response: &[u8],
-) -> Outcome
+) -> Result<(), Refusal>
     ensures { let archive = archive.entry.now in
         let mask_key = mask_key.now in
         let auxiliary = auxiliary.entry.now in
@@ -55,119 +61,97 @@ fn prove_check(
         result ≡ prove_answer archive mask_key auxiliary seed message response }
 {
     if bad_archive(archive) {
-        return Outcome::Refused(Refusal::BadArchive);
+        return Err(Refusal::BadArchive);
     }
-    if message::malformed(message) {
-        return Outcome::Refused(Refusal::Malformed);
-    }
+    let challenge = ChallengeMessage::read(message)?;
     let z = sizes_in(archive);
     if (mask_key.len() != sizes::KEY_LENGTH)
         | (auxiliary.len() != sizes::auxiliary_length(z.n, z.tags))
         | (seed.len() != sizes::SEED_LENGTH)
         | (response.len() != sizes::response_length(z.n, z.tags))
     {
-        return Outcome::Refused(Refusal::Length);
+        return Err(Refusal::Length);
     }
-    if message::not_there(z, message) {
-        return Outcome::Refused(Refusal::NoSuchPlace);
+    if challenge.not_there(z) {
+        return Err(Refusal::NoSuchPlace);
     }
-    if any_named_empty(archive, message) {
-        return Outcome::Refused(Refusal::PlaceEmpty);
+    if any_named_empty(archive, &challenge) {
+        return Err(Refusal::PlaceEmpty);
     }
-    Outcome::Done
+    Ok(())
 }
 
 // The records of the named places, blocks and tags, combined by the challenge.
-fn named_record(tables: &Tables, archive: &[u8], message: &[u8]) -> [u8; sizes::RECORD_MOST]
-    requires { FieldTables tables.now
-        × (bad_archive archive.now ≡ false)
-        × (malformed_challenge message.now ≡ false)
-        × (not_there (sizes_of archive.now) (challenge_of message.now) ≡ false) }
+fn named_record(
+    tables: &Tables,
+    archive: &[u8],
+    challenge: &ChallengeMessage<'_>,
+) -> [u8; sizes::RECORD_MOST]
+    requires { (bad_archive archive.now ≡ false)
+        × (not_there (sizes_of archive.now) challenge.now ≡ false) }
     ensures { let archive = archive.entry.now in
-        let message = message.entry.now in
-        ((e : ℕ) → e < record_length (sizes_of archive) → at result e ≡ named_byte (sizes_of archive) archive (challenge_of message) e) }
+        ((e : ℕ) → e < record_length (sizes_of archive) → at result e ≡ named_byte (sizes_of archive) archive challenge.now e) }
 {
     let z = sizes_in(archive);
-    let start = record_start(z, message::node_in(message) * z.places);
+    let start = record_start(z, challenge.node() * z.places);
+    let len = record_length(z);
     let mut record = [0u8; sizes::RECORD_MOST];
-    message::add_named(
-        tables,
-        message,
-        archive,
-        start,
-        &mut record,
-        record_length(z),
-    );
+    challenge.add_named(tables, &archive[start..], &mut record[..len]);
     record
 }
 
-// The mask sums of a seed, in their place in the response.
-fn write_sums(key: Key, seed: &[u8], n: usize, tags: usize, auxiliary: &[u8], response: &mut [u8])
-    requires { (n_least ≤ n)
-        × (n ≤ n_most)
-        × (tags ≤ tags_most)
-        × (length seed.now ≡ seed_length)
-        × (length auxiliary.now ≡ auxiliary_length n tags)
-        × (length response.old ≡ response_length n tags) }
-    ensures { let seed = seed.entry.now in
-        let auxiliary = auxiliary.entry.now in
-        response.new
-        ≡ put tags (sum_at n 0) (mask_sum n (mask_coefficient key seed) auxiliary) response.old }
+// The mask sums of a seed, one for each tag.
+fn write_sums(rows: &MaskRows, seed: Seed, auxiliary: &[u8], sums: &mut [u8])
+    requires { (length sums.old ≤ tags_most)
+        × (length auxiliary.now ≡ auxiliary_length rows.now.n (length sums.old)) }
+    ensures { let auxiliary = auxiliary.entry.now in
+        let rows = rows.entry.now in
+        sums.new ≡ tab (length sums.old) (mask_sum rows.n (mask_coefficient rows.key seed) auxiliary) }
 {
-    for s in 0..tags {
-        response[n + sizes::SUM_PAST_N + s] = mask::mask_sum(key, seed, n, auxiliary, s);
+    for (s, sum) in sums.iter_mut().enumerate() {
+        *sum = rows.mask_sum(seed, auxiliary, s);
     }
 }
 
 // The response that a combined record makes, part by part.
 fn write_parts(
     node: usize,
-    n: usize,
+    rows: &MaskRows,
     m: usize,
     tags: usize,
     combined: &[u8],
-    key: Key,
-    id: &[u8],
     auxiliary: &[u8],
-    seed: &[u8],
+    seed: Seed,
     response: &mut [u8],
 )
     requires { (node < 8)
-        × (n_least ≤ n)
-        × (n ≤ n_most)
         × (m ≤ m_most)
         × (tags ≤ tags_most)
         × (length combined.now ≡ record_most)
-        × (length id.now ≡ id_length)
-        × (length auxiliary.now ≡ auxiliary_length n tags)
-        × (length seed.now ≡ seed_length)
-        × (length response.old ≡ response_length n tags) }
-    ensures { let id = id.entry.now in
-        let auxiliary = auxiliary.entry.now in
-        let seed = seed.entry.now in
+        × (length auxiliary.now ≡ auxiliary_length rows.now.n tags)
+        × (length response.old ≡ response_length rows.now.n tags) }
+    ensures { let auxiliary = auxiliary.entry.now in
         let combined = combined.entry.now in
-        let tag : ℕ → ℕ = λ s. at combined (n + m + s) in
-        response.new ≡ response_for n tags id key auxiliary seed node (at combined) tag }
+        let rows = rows.entry.now in
+        let tag : ℕ → ℕ = λ s. at combined (rows.n + m + s) in
+        response.new ≡ response_for rows.n tags rows.id rows.key auxiliary seed node (at combined) tag }
 {
+    let n = rows.n;
+    let sums_start = n + sizes::SUM_PAST_N;
+    let clear_start = n + tags + sizes::CLEAR_PAST_SUMS;
+    let tags_start = n + tags + sizes::TAG_PAST_SUMS;
     response[0] = message::head_byte(node);
-    lists::store(combined, 0, response, 1, n - 2);
-    mask::add_mask(key, id, seed, n, response, 1);
-    lists::store(seed, 0, response, n - 1, sizes::SEED_LENGTH);
-    write_sums(key, seed, n, tags, auxiliary, response);
-    lists::store(
-        combined,
-        n - 2,
-        response,
-        n + tags + sizes::CLEAR_PAST_SUMS,
-        2,
+    response[1..n - 1].copy_from_slice(&combined[..n - 2]);
+    rows.add_mask(seed, &mut response[1..n - 1]);
+    response[n - 1..sums_start].copy_from_slice(&seed);
+    write_sums(
+        rows,
+        seed,
+        auxiliary,
+        &mut response[sums_start..clear_start],
     );
-    lists::store(
-        combined,
-        n + m,
-        response,
-        n + tags + sizes::TAG_PAST_SUMS,
-        tags,
-    );
+    response[clear_start..tags_start].copy_from_slice(&combined[n - 2..n]);
+    response[tags_start..].copy_from_slice(&combined[n + m..n + m + tags]);
 }
 
 // The combined record of the named places under the mask of the seed.
@@ -188,14 +172,19 @@ fn write_response(
         response.new
         ≡ proved_for (sizes_of archive) (id_of archive) archive mask_key auxiliary seed (challenge_of message) }
 {
-    let tables = field::tables();
+    let challenge = ChallengeMessage::read(message).unwrap();
+    let tables = Tables::new();
     let z = sizes_in(archive);
-    let combined = named_record(&tables, archive, message);
-    let node = message::node_in(message);
-    let key = tag::key_array(mask_key);
-    let id = archive::id_in(archive);
+    let combined = named_record(&tables, archive, &challenge);
+    let node = challenge.node();
+    let seed = Seed::try_from(seed).unwrap();
+    let rows = MaskRows {
+        key: Key::try_from(mask_key).unwrap(),
+        id: archive::id_in(archive),
+        n: z.n,
+    };
     write_parts(
-        node, z.n, z.m, z.tags, &combined, key, &id, auxiliary, seed, response,
+        node, &rows, z.m, z.tags, &combined, auxiliary, seed, response,
     );
 }
 
@@ -207,7 +196,7 @@ pub fn prove(
     seed: &[u8],
     message: &[u8],
     response: &mut [u8],
-) -> Outcome
+) -> Result<(), Refusal>
     ensures answer { let archive = archive.entry.now in
         let mask_key = mask_key.now in
         let auxiliary = auxiliary.entry.now in
@@ -222,9 +211,7 @@ pub fn prove(
         let message = message.entry.now in
         response.new ≡ prove_out archive mask_key auxiliary seed message response.old }
 {
-    let answer = prove_check(archive, mask_key, auxiliary, seed, message, response);
-    if let Outcome::Done = answer {
-        write_response(archive, mask_key, auxiliary, seed, message, response);
-    }
-    answer
+    prove_check(archive, mask_key, auxiliary, seed, message, response)?;
+    write_response(archive, mask_key, auxiliary, seed, message, response);
+    Ok(())
 }

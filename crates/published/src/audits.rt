@@ -1,5 +1,5 @@
 // Challenge and Verdict: the lives in numbers, and calls with any lengths and numbers.
-use cases::{CHALLENGE, ID, RESPONSE, RESPONSE_OF_THREE, counting_key};
+use cases::{CHALLENGE, ID, Lent, RESPONSE, RESPONSE_OF_THREE, counting_key, first};
 use std::io;
 
 // The rows that the table has for node 2.
@@ -16,55 +16,65 @@ const ZEROS: [u8; 5] = [0x14, 0x40, 0x00, 0x80, 0x00];
 
 const SECOND: [u8; 3] = [0x14, 0x24, 0x04];
 
-fn challenge_worked(rt: &impl Print) -> io::Result<()> {
-    let mut message = [0u8; 5];
-    let answer = answer::number(message::challenge(2, &[0, 1], &[0x07, 0xb5], &mut message));
-    cases::number(rt, "Challenge's answer", 0, answer as u64)?;
-    cases::bytes(
+// A Challenge to node 2 that is done, into bytes that are each `before`.
+fn challenged(
+    rt: &impl Print,
+    label: &str,
+    sent: &str,
+    places: &[u8],
+    coefficients: &[u8],
+    before: u8,
+    expected: &[u8],
+) -> io::Result<()> {
+    let mut lent = Lent::filled(before, expected.len());
+    let answer = message::challenge(2, places, coefficients, lent.as_mut_slice());
+    cases::answered(rt, label, 0, answer)?;
+    cases::bytes(rt, sent, expected, lent.as_slice())
+}
+
+fn challenges(rt: &impl Print) -> io::Result<()> {
+    challenged(
         rt,
+        "Challenge's answer",
         "Challenge to node 2, places 0 and 1",
+        &[0, 1],
+        &[0x07, 0xb5],
+        0x00,
         &CHALLENGE,
-        &message,
-    )
-}
-
-fn challenge_of_one(rt: &impl Print) -> io::Result<()> {
-    let mut message = [0xffu8; 3];
-    let answer = answer::number(message::challenge(2, &[0], &[1], &mut message));
-    cases::number(rt, "Challenge's answer, one item", 0, answer as u64)?;
-    cases::bytes(
+    )?;
+    challenged(
         rt,
+        "Challenge's answer, one item",
         "Challenge to node 2, place 0, coefficient 01",
+        &[0],
+        &[1],
+        0xff,
         &[0x14, 0x20, 0x04],
-        &message,
     )
 }
 
-// A refused Challenge with lists and a message of these lengths, each below 65; the first two places are given, the others are 7.
+// A refused Challenge with lists and a message of these lengths, each of at most 64; the first two places are given, the others are 7.
 fn challenge(
     rt: &impl Print,
     label: &str,
     expected: u64,
     node: usize,
     places: usize,
-    first: u8,
-    second: u8,
+    place: u8,
+    next: u8,
     coefficients: usize,
     message: usize,
 ) -> io::Result<()> {
-    let ones = [1u8; 64];
-    let mut named = [7u8; 64];
-    named[0] = first;
-    named[1] = second;
-    let mut lent = [0xa5u8; 64];
-    let answer = answer::number(message::challenge(
+    let named = Lent::filled(7, places).with_start(&[place, next]);
+    let mut lent = Lent::filled(0xa5, message);
+    let answer = message::challenge(
         node,
-        &named[0..places % 65],
-        &ones[0..coefficients % 65],
-        &mut lent[0..message % 65],
-    ));
-    cases::number(rt, label, expected, answer as u64)?;
-    cases::kept(rt, lent)
+        named.as_slice(),
+        first(&[1; 64], coefficients),
+        lent.as_mut_slice(),
+    );
+    cases::answered(rt, label, expected, answer)?;
+    cases::kept(rt, &lent)
 }
 
 // The order: 2 for lists of unequal length, 9 for fields, 2 for the output.
@@ -114,7 +124,7 @@ fn judge(
         message,
         response,
     );
-    cases::number(rt, label, expected, audit::number(judgement) as u64)
+    cases::number(rt, label, expected, u64::from(audit::number(judgement)))
 }
 
 // On the response of the first life with byte `at` made b.
@@ -211,7 +221,7 @@ fn sized(
         &CHALLENGE,
         &RESPONSE,
     );
-    cases::number(rt, label, expected, audit::number(judgement) as u64)
+    cases::number(rt, label, expected, u64::from(audit::number(judgement)))
 }
 
 fn sizes(rt: &impl Print) -> io::Result<()> {
@@ -324,8 +334,7 @@ fn before_zero_rows(rt: &impl Print) -> io::Result<()> {
 }
 
 pub fn run(rt: &impl Print) -> io::Result<()> {
-    challenge_worked(rt)?;
-    challenge_of_one(rt)?;
+    challenges(rt)?;
     challenge_refused(rt)?;
     verdicts(rt)?;
     verdicts_of_three(rt)?;

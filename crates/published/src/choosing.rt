@@ -7,17 +7,16 @@ const TABLE: [u8; 15] = [
 ];
 
 // How many rows are taken, how many candidates were consulted, the numbers of two rows, and their elements.
-fn chosen(rt: &impl Print, label: &str, expected: &[u8], candidates: [u8; 48]) -> io::Result<()> {
-    let table = TABLE;
+fn chosen(rt: &impl Print, label: &str, expected: &[u8], candidates: [bool; 48]) -> io::Result<()> {
     let rows = Rows {
+        bytes: &TABLE,
         start: 1,
         stride: 3,
         count: 5,
         m: 2,
     };
-    let c = choice::choose(&table, rows, candidates);
-    let numbers = c.numbers;
-    let taken = choice::rows_of(&table, rows, numbers, c.count);
+    let c = rows.choose(candidates);
+    let taken = rows.rows_of(c.numbers, c.count);
     cases::bytes(
         rt,
         label,
@@ -25,8 +24,8 @@ fn chosen(rt: &impl Print, label: &str, expected: &[u8], candidates: [u8; 48]) -
         &[
             (c.count % 256) as u8,
             (c.consulted % 256) as u8,
-            numbers[0],
-            numbers[1],
+            c.numbers[0],
+            c.numbers[1],
             taken[0][0],
             taken[0][1],
             taken[1][0],
@@ -36,27 +35,27 @@ fn chosen(rt: &impl Print, label: &str, expected: &[u8], candidates: [u8; 48]) -
 }
 
 pub fn run(rt: &impl Print) -> io::Result<()> {
-    let mut candidates = [1u8; 48];
+    let mut candidates = [true; 48];
     chosen(
         rt,
         "Choice among five rows",
         &[2, 4, 1, 3, 2, 3, 1, 0],
         candidates,
     )?;
-    candidates[1] = 0;
+    candidates[1] = false;
     chosen(
         rt,
         "Without the second",
         &[2, 3, 2, 3, 4, 6, 1, 0],
         candidates,
     )?;
-    candidates[2] = 0;
-    candidates[4] = 0;
+    candidates[2] = false;
+    candidates[4] = false;
     chosen(
         rt,
         "The first and the fourth alone",
         &[1, 2, 3, 0, 1, 0, 0, 0],
         candidates,
     )?;
-    chosen(rt, "No candidate", &[0, 0, 0, 0, 0, 0, 0, 0], [0u8; 48])
+    chosen(rt, "No candidate", &[0, 0, 0, 0, 0, 0, 0, 0], [false; 48])
 }

@@ -1,5 +1,6 @@
 // Rows and elimination: the worked rows 01 00 and 02 03, and rows that do not determine a vector.
-// Of the first k rows, m elements each; both are below 17.
+// Of the first k rows, m elements each; both are at most 16.
+use field::Tables;
 use std::io;
 
 fn rank(
@@ -10,34 +11,31 @@ fn rank(
     k: usize,
     m: usize,
 ) -> io::Result<()> {
-    let mut r = 0usize;
-    linear::reduce(a, k % 17, m % 17, &mut r);
-    cases::number(rt, label, expected, r as u64)
+    let found = linear::reduce(a, k.min(16), m.min(16));
+    cases::number(rt, label, expected, found.rank as u64)
 }
 
 // The first two bytes of the first two combinations.
 fn combinations(a: [[u8; 16]; 16]) -> [u8; 4] {
-    let mut r = 0usize;
-    let c = linear::reduce(a, 2, 2, &mut r);
+    let c = linear::reduce(a, 2, 2).combinations;
     [c[0][0], c[0][1], c[1][0], c[1][1]]
 }
 
 // A row of two elements is kept as sixteen bytes; its product reads the two.
 fn kept(rt: &impl Print) -> io::Result<()> {
-    let row = linear::row_from(&[0x01, 0x02, 0x03, 0x04], 1, 2);
-    let bytes = row.bytes;
+    let row = linear::row_from(&[0x01, 0x02, 0x03, 0x04][1..3]);
     cases::bytes(
         rt,
         "Row 02 03 as it is kept",
         &[2, 3, 0, 0, 0, 0, 0, 0, 0, 0, 0, 0, 0, 0, 0, 0],
-        &bytes,
+        &row.bytes,
     )?;
-    let tables = field::tables();
+    let tables = Tables::new();
     cases::number(
         rt,
         "Row 02 03 times 02 03",
         1,
-        linear::dot(&tables, row, &[0x02, 0x03, 0x04], 2) as u64,
+        u64::from(linear::dot(&tables, row, &[0x02, 0x03, 0x04][..2])),
     )
 }
 

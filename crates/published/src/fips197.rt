@@ -1,6 +1,4 @@
 // FIPS 197: products and inverses (4.2), the chain of xtime (4.2.1), the S-box (5.1.1), and every product against a second method.
-ghost use Rattle.std.specs.Prelude.{◌≤◌};
-
 use std::io;
 
 // Figure 7, row by row.
@@ -22,7 +20,12 @@ const SBOX: [u8; 256] = *b"\x63\x7c\x77\x7b\xf2\x6b\x6f\xc5\x30\x01\x67\x2b\xfe\
     \x8c\xa1\x89\x0d\xbf\xe6\x42\x68\x41\x99\x2d\x0f\xb0\x54\xbb\x16";
 
 fn product(rt: &impl Print, label: &str, a: u8, b: u8, expected: u8) -> io::Result<()> {
-    cases::number(rt, label, expected as u64, field::multiply(a, b) as u64)
+    cases::number(
+        rt,
+        label,
+        u64::from(expected),
+        u64::from(field::multiply(a, b)),
+    )
 }
 
 fn products(rt: &impl Print) -> io::Result<()> {
@@ -57,7 +60,7 @@ fn factors(rt: &impl Print) -> io::Result<()> {
 }
 
 fn inverse(rt: &impl Print, label: &str, a: u8, expected: u8) -> io::Result<()> {
-    cases::number(rt, label, expected as u64, field::inverse(a) as u64)
+    cases::number(rt, label, u64::from(expected), u64::from(field::inverse(a)))
 }
 
 fn inverses(rt: &impl Print) -> io::Result<()> {
@@ -83,15 +86,15 @@ fn substituted(x: u8) -> u8 {
             ^ bit(b, i + 6)
             ^ bit(b, i + 7)
             ^ bit(0x63, i);
-        r = r | (s << i);
+        r |= s << i;
     }
     r
 }
 
 fn sbox(rt: &impl Print) -> io::Result<()> {
     let mut got = [0u8; 256];
-    for x in 0..256 {
-        got[x] = substituted((x % 256) as u8);
+    for (image, x) in got.iter_mut().zip(0..=255) {
+        *image = substituted(x);
     }
     cases::bytes(rt, "FIPS 197 5.1.1, S-box", &SBOX, &got)
 }
@@ -101,7 +104,7 @@ fn polynomial_product(a: u8, b: u8) -> u32 {
     let mut p = 0u32;
     for i in 0u8..8 {
         if bit(a, i) == 1 {
-            p = p ^ ((b as u32) << i);
+            p ^= u32::from(b) << i;
         }
     }
     p
@@ -110,10 +113,9 @@ fn polynomial_product(a: u8, b: u8) -> u32 {
 // A polynomial of up to fifteen bits, the modulus subtracted from the top down.
 fn reduced(polynomial: u32) -> u8 {
     let mut p = polynomial;
-    for k in 0u32..7 {
-        let i = 14 - k;
-        if (p >> i) % 2 == 1 {
-            p = p ^ (0x11b << (i - 8));
+    for i in (0u32..7).rev() {
+        if (p >> (i + 8)) % 2 == 1 {
+            p ^= 0x11b << i;
         }
     }
     (p % 256) as u8
@@ -124,35 +126,19 @@ fn by_polynomials(a: u8, b: u8) -> u8 {
     reduced(polynomial_product(a, b))
 }
 
-// 1 where x and y differ, else 0.
-fn differ(x: u8, y: u8) -> u64
-    ensures { result ≤ 1 }
-{
-    if x != y { 1 } else { 0 }
-}
-
-// How many of the products of a with each byte differ between the two methods.
-fn differences_with(a: u8) -> u64
-    ensures { result ≤ 256 }
-{
-    let mut found = 0u64;
-    for b in 0usize..256 {
-        let x = (b % 256) as u8;
-        found = found + differ(field::multiply(a, x), by_polynomials(a, x));
-    }
-    found
-}
-
+// Of all pairs of bytes, each as a number of two bytes, how many have another product by the second method.
 fn all_products(rt: &impl Print) -> io::Result<()> {
-    let mut found = 0u64;
-    for a in 0usize..256 {
-        found = found + differences_with((a % 256) as u8);
-    }
+    let found = (0..=u16::MAX)
+        .filter(|pair| {
+            let [a, b] = pair.to_be_bytes();
+            field::multiply(a, b) != by_polynomials(a, b)
+        })
+        .count();
     cases::number(
         rt,
         "65536 products, differences from the second method",
         0,
-        found,
+        found as u64,
     )
 }
 

@@ -1,8 +1,8 @@
 // Setup and Unmask: the lives in numbers, and calls with any lengths and numbers.
-use cases::{ID, RESPONSE, RESPONSE_OF_THREE, counting_key};
+use cases::{ID, Lent, RESPONSE, RESPONSE_OF_THREE, counting_key, first};
 use std::io;
 
-// Setup with n=3 and the mask key 64 .. 83; what it leaves of 64 bytes.
+// Setup with n=3 and the mask key 64 .. 83; what it leaves of what is lent.
 fn setup_with(
     rt: &impl Print,
     label: &str,
@@ -11,24 +11,17 @@ fn setup_with(
     id: [u8; 8],
     tags: usize,
     out: usize,
-) -> io::Result<[u8; 64]> {
-    let mut lent = [0xa5u8; 64];
-    let answer = answer::number(mask::setup(
-        &key,
-        &counting_key(100),
-        &id,
-        3,
-        tags,
-        &mut lent[0..out % 65],
-    ));
-    cases::number(rt, label, expected, answer as u64)?;
+) -> io::Result<Lent> {
+    let mut lent = Lent::filled(0xa5, out);
+    let answer = mask::setup(&key, &counting_key(100), &id, 3, tags, lent.as_mut_slice());
+    cases::answered(rt, label, expected, answer)?;
     Ok(lent)
 }
 
 fn setup_worked(rt: &impl Print, label: &str, tags: usize, elements: &[u8]) -> io::Result<()> {
     let len = elements.len();
     let lent = setup_with(rt, "Setup's answer", 0, counting_key(0), ID, tags, len)?;
-    cases::bytes(rt, label, elements, &lent[0..len % 65])
+    cases::bytes(rt, label, elements, lent.as_slice())
 }
 
 fn setups(rt: &impl Print) -> io::Result<()> {
@@ -44,7 +37,7 @@ fn setups(rt: &impl Print) -> io::Result<()> {
 fn unmask_worked(rt: &impl Print, label: &str, tags: usize, response: &[u8]) -> io::Result<()> {
     let mut block = [0u8; 1];
     let answer = message::unmask(3, tags, &ID, &counting_key(100), response, &mut block);
-    cases::number(rt, "Unmask's answer", 0, answer::number(answer) as u64)?;
+    cases::answered(rt, "Unmask's answer", 0, answer)?;
     cases::bytes(rt, label, &[0x74], &block)
 }
 
@@ -57,7 +50,7 @@ fn zero_vector(
     tags: usize,
     out: usize,
 ) -> io::Result<()> {
-    cases::kept(rt, setup_with(rt, label, expected, key, id, tags, out)?)
+    cases::kept(rt, &setup_with(rt, label, expected, key, id, tags, out)?)
 }
 
 // 7, after the lengths: vector 0 of the first key starts with zero, of the second key vector 1 alone.
@@ -72,7 +65,7 @@ fn zero_vectors(rt: &impl Print) -> io::Result<()> {
     zero_vector(rt, "Setup, the same with L=3", 7, second, ID, 3, 6)
 }
 
-// A refused Setup with buffers of these lengths, each below 65.
+// A refused Setup with buffers of these lengths, each of at most 64.
 fn setup(
     rt: &impl Print,
     label: &str,
@@ -84,20 +77,18 @@ fn setup(
     tags: usize,
     out: usize,
 ) -> io::Result<()> {
-    let keys = [0xa5u8; 64];
-    let others = keys;
-    let ids = keys;
-    let mut lent = keys;
-    let answer = answer::number(mask::setup(
-        &keys[0..tag_key % 65],
-        &others[0..mask_key % 65],
-        &ids[0..id % 65],
+    let given = [0xa5u8; 64];
+    let mut lent = Lent::filled(0xa5, out);
+    let answer = mask::setup(
+        first(&given, tag_key),
+        first(&given, mask_key),
+        first(&given, id),
         n,
         tags,
-        &mut lent[0..out % 65],
-    ));
-    cases::number(rt, label, expected, answer as u64)?;
-    cases::kept(rt, lent)
+        lent.as_mut_slice(),
+    );
+    cases::answered(rt, label, expected, answer)?;
+    cases::kept(rt, &lent)
 }
 
 fn setup_refused(rt: &impl Print) -> io::Result<()> {
@@ -130,7 +121,7 @@ fn setup_refused(rt: &impl Print) -> io::Result<()> {
     setup(rt, "Setup, L=3, output of one tag", 2, 32, 32, 8, 3, 3, 2)
 }
 
-// A refused Unmask with buffers of these lengths, each below 65; the response starts with `first`.
+// A refused Unmask with buffers of these lengths, each of at most 64; the response starts with `start`.
 fn unmask(
     rt: &impl Print,
     label: &str,
@@ -140,24 +131,22 @@ fn unmask(
     id: usize,
     mask_key: usize,
     response: usize,
-    first: u8,
+    start: u8,
     out: usize,
 ) -> io::Result<()> {
-    let ids = [0xa5u8; 64];
-    let keys = ids;
-    let mut responses = ids;
-    responses[0] = first;
-    let mut lent = ids;
-    let answer = answer::number(message::unmask(
+    let given = [0xa5u8; 64];
+    let got = Lent::filled(0xa5, response).with_start(&[start]);
+    let mut lent = Lent::filled(0xa5, out);
+    let answer = message::unmask(
         n,
         tags,
-        &ids[0..id % 65],
-        &keys[0..mask_key % 65],
-        &responses[0..response % 65],
-        &mut lent[0..out % 65],
-    ));
-    cases::number(rt, label, expected, answer as u64)?;
-    cases::kept(rt, lent)
+        first(&given, id),
+        first(&given, mask_key),
+        got.as_slice(),
+        lent.as_mut_slice(),
+    );
+    cases::answered(rt, label, expected, answer)?;
+    cases::kept(rt, &lent)
 }
 
 fn unmask_refused(rt: &impl Print) -> io::Result<()> {

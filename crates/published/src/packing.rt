@@ -1,5 +1,20 @@
 // Bit-packed fields: the worked header and challenge, written and read back field by field.
+ghost use Rattle.std.specs.Prelude.{◌+◌, ◌*◌, ◌≤◌, length};
+
 use std::io;
+
+fn read(
+    rt: &impl Print,
+    label: &str,
+    expected: u64,
+    s: &[u8],
+    from: usize,
+    width: usize,
+) -> io::Result<()>
+    requires { (width ≤ 16) × (from + width ≤ 8 * length s.now) }
+{
+    cases::number(rt, label, expected, bits::read_field(s, from, width) as u64)
+}
 
 // n=3, m=2, M=1, N=3 under layout 1, into bytes that are all ones.
 fn header(rt: &impl Print) -> io::Result<()> {
@@ -16,22 +31,12 @@ fn header(rt: &impl Print) -> io::Result<()> {
         &[0x10, 0x06, 0x21, 0x60],
         &s,
     )?;
-    cases::number(rt, "Header, layout", 1, bits::read_field(&s, 0, 4) as u64)?;
-    sizes_read(rt, s)?;
-    cases::number(
-        rt,
-        "Header, spare bits",
-        0,
-        bits::read_field(&s, 27, 5) as u64,
-    )
-}
-
-// The sizes of that header, read back.
-fn sizes_read(rt: &impl Print, s: [u8; 4]) -> io::Result<()> {
-    cases::number(rt, "Header, n", 3, bits::read_field(&s, 4, 11) as u64)?;
-    cases::number(rt, "Header, m", 2, bits::read_field(&s, 15, 5) as u64)?;
-    cases::number(rt, "Header, M", 1, bits::read_field(&s, 20, 4) as u64)?;
-    cases::number(rt, "Header, N", 3, bits::read_field(&s, 24, 3) as u64)
+    read(rt, "Header, layout", 1, &s, 0, 4)?;
+    read(rt, "Header, n", 3, &s, 4, 11)?;
+    read(rt, "Header, m", 2, &s, 15, 5)?;
+    read(rt, "Header, M", 1, &s, 20, 4)?;
+    read(rt, "Header, N", 3, &s, 24, 3)?;
+    read(rt, "Header, spare bits", 0, &s, 27, 5)
 }
 
 // Kind 1, node 2, one item: place 0, coefficient 01.
@@ -48,13 +53,8 @@ fn challenge(rt: &impl Print) -> io::Result<()> {
         &[0x14, 0x20, 0x04],
         &s,
     )?;
-    cases::number(rt, "Challenge, node", 2, bits::read_field(&s, 4, 3) as u64)?;
-    cases::number(
-        rt,
-        "Challenge, coefficient",
-        1,
-        bits::read_field(&s, 14, 8) as u64,
-    )
+    read(rt, "Challenge, node", 2, &s, 4, 3)?;
+    read(rt, "Challenge, coefficient", 1, &s, 14, 8)
 }
 
 pub fn run(rt: &impl Print) -> io::Result<()> {

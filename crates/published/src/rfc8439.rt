@@ -87,10 +87,10 @@ fn quarter(rt: &impl Print) -> io::Result<()> {
         c: 0x9b8d6f43,
         d: 0x01234567,
     });
-    cases::number(rt, "RFC 8439 2.1.1, a", 0xea2a92f4, r.a as u64)?;
-    cases::number(rt, "RFC 8439 2.1.1, b", 0xcb1cf8ce, r.b as u64)?;
-    cases::number(rt, "RFC 8439 2.1.1, c", 0x4581472e, r.c as u64)?;
-    cases::number(rt, "RFC 8439 2.1.1, d", 0x5881c4bb, r.d as u64)
+    cases::number(rt, "RFC 8439 2.1.1, a", 0xea2a92f4, u64::from(r.a))?;
+    cases::number(rt, "RFC 8439 2.1.1, b", 0xcb1cf8ce, u64::from(r.b))?;
+    cases::number(rt, "RFC 8439 2.1.1, c", 0x4581472e, u64::from(r.c))?;
+    cases::number(rt, "RFC 8439 2.1.1, d", 0x5881c4bb, u64::from(r.d))
 }
 
 fn block_case(
@@ -102,8 +102,8 @@ fn block_case(
     expected: &[u8],
 ) -> io::Result<()> {
     let mut out = [0u8; 64];
-    let answer = answer::number(keystream::block(&key, counter, &nonce, &mut out));
-    cases::number(rt, "Block's answer", 0, answer as u64)?;
+    let answer = keystream::block(&key, counter, &nonce, &mut out);
+    cases::answered(rt, "Block's answer", 0, answer)?;
     cases::bytes(rt, label, expected, &out)
 }
 
@@ -134,35 +134,18 @@ fn blocks(rt: &impl Print) -> io::Result<()> {
     block_case(rt, "RFC 8439 A.1 #5", zero, 0, two, &BLOCK_5)
 }
 
-// The stream with the bytes of one block drawn.
-fn block_skipped(s: Stream) -> Stream {
-    let mut t = s;
-    for _ in 0usize..64 {
-        let d = t.next();
-        let u = d.stream;
-        t = u;
-    }
-    t
-}
-
-// The stream with the bytes of the first `blocks` blocks drawn.
-fn skipped(s: Stream, blocks: usize) -> Stream {
-    let mut t = s;
-    for _ in 0..blocks {
-        let u = block_skipped(t);
-        t = u;
-    }
-    t
+// The stream with its first `count` bytes drawn.
+fn skipped(s: Stream, count: usize) -> Stream {
+    (0..count).fold(s, |t, _| t.next().stream)
 }
 
 // Adds the stream's next bytes to text.
 fn encrypt(s: Stream, text: &mut [u8]) {
     let mut t = s;
-    for i in 0..text.len() {
+    for byte in text {
         let d = t.next();
-        text[i] = text[i] ^ d.byte;
-        let u = d.stream;
-        t = u;
+        *byte ^= d.byte;
+        t = d.stream;
     }
 }
 
@@ -178,10 +161,10 @@ fn streams(rt: &impl Print) -> io::Result<()> {
     encrypt(Stream::new(zero, none), &mut first);
     cases::bytes(rt, "RFC 8439 A.2 #1", &BLOCK_1, &first)?;
     let mut second = TEXT_2;
-    encrypt(skipped(Stream::new(one, two), 1), &mut second);
+    encrypt(skipped(Stream::new(one, two), 64), &mut second);
     cases::bytes(rt, "RFC 8439 A.2 #2", &CIPHER_2, &second)?;
     let mut third = TEXT_3;
-    encrypt(skipped(Stream::new(KEY_3, two), 42), &mut third);
+    encrypt(skipped(Stream::new(KEY_3, two), 42 * 64), &mut third);
     cases::bytes(rt, "RFC 8439 A.2 #3", &CIPHER_3, &third)
 }
 
@@ -192,8 +175,8 @@ fn refused(
     nonce: &[u8],
     out: &mut [u8],
 ) -> io::Result<()> {
-    let answer = answer::number(keystream::block(key, 0, nonce, out));
-    cases::number(rt, label, 2, answer as u64)
+    let answer = keystream::block(key, 0, nonce, out);
+    cases::answered(rt, label, 2, answer)
 }
 
 // A wrong length is refused with 2, and the output keeps its bytes.

@@ -8,7 +8,7 @@ use native.Mathlib.Omega.{arith}
 use lib.ListN.{length}
 use Rattle.lists.specs.Lists.{at, flat, grid, how_many}
 use Rattle.lists.proofs.PutLaws.{length_flat, flat_at, flat_every, grid_all}
-use Rattle.answer.specs.declared.Outcome.TheVariants.{Done}
+use Rattle.answer.specs.Answer.{done, Ok, Err}
 use Rattle.answer.specs.declared.Refusal.TheVariants.{Unreadable}
 use Rattle.answer.proofs.RefusalLaws.{passed, differs_same}
 use Rattle.sizes.specs.declared.Sizes.{Sizes}
@@ -19,7 +19,6 @@ use Rattle.linear.specs.PrivateElimination.{Matrix, Reduces}
 use Rattle.archive.specs.Layout.{sizes_of, mark_at, byte_in, bad_archive}
 use Rattle.sizes.specs.Lengths.{file_length}
 use Rattle.archive.specs.Read.{row_in, Solved, read_before, ReadFor, ReadAllows}
-use Rattle.answer.specs.declared.Counted.TheVariants.{Count, Refused}
 use Rattle.archive.proofs.CallLaws.{read_sizes}
 use Rattle.choice.specs.declared.Chosen.{Chosen}
 use Rattle.choice.specs.PrivateChoice.{listed_rows}
@@ -69,17 +68,17 @@ module _ (z : Sizes) (s : List ℕ) (c : Chosen) (chosen : ChosenIn z s (mark_at
 
   module _ (out : List ℕ) (good : bad_archive s ≡ false) (read : z ≡ sizes_of s) (size : length out ≡ file_length (sizes_of s)) where
     -- nothing is refused before
-    not_before : read_before z s out ≡ Done
+    not_before : read_before z s out ≡ done
     not_before = passed _ _ good ∙ passed _ _ (differs_same (size ∙ sym (ap file_length read)))
 
     -- rank below m
-    pub refuses : rank < z.m → ReadAllows s out (Refused Unreadable) out
-    refuses below = subst (λ (x : Sizes). ReadFor x s out (Refused Unreadable) out) read (refl, inr (not_before, refl, unreadable z s (mark_at s) c chosen t rank reduced below))
+    pub refuses : rank < z.m → ReadAllows s out (Err Unreadable) out
+    refuses below = subst (λ (x : Sizes). ReadFor x s out (Err Unreadable) out) read (refl, inr (not_before, refl, unreadable z s (mark_at s) c chosen t rank reduced below))
 
     -- rank m
-    pub reads : {file : List ℕ} → ((i : ℕ) → at s i < 256) → rank ≡ z.m → file ≡ grid z.m (z.n - 2) 0 block out → ReadAllows s out (Count c.consulted) file
+    pub reads : {file : List ℕ} → ((i : ℕ) → at s i < 256) → rank ≡ z.m → file ≡ grid z.m (z.n - 2) 0 block out → ReadAllows s out (Ok c.consulted) file
     reads {file} low full written =
-        subst (λ (x : Sizes). ReadFor x s out (Count c.consulted) file) read (
+        subst (λ (x : Sizes). ReadFor x s out (Ok c.consulted) file) read (
           not_before,
           readable z s (mark_at s) c chosen t rank reduced full,
           solved (read_sizes s read good) low full out (rw read size) written,

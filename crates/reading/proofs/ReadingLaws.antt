@@ -11,12 +11,12 @@ use Rattle.sizes.specs.declared.Sizes.{Sizes}
 use Rattle.sizes.specs.Lengths.{place_count}
 use Rattle.linear.specs.PrivateElimination.{Matrix, Reduces}
 use Rattle.linear.proofs.AlikeLaws.{reduces_same}
-use Rattle.choice.specs.declared.Rows.{Rows}
+use Rattle.choice.specs.declared.rows.Rows.{Rows}
 use Rattle.choice.specs.declared.Chosen.{Chosen}
 use Rattle.choice.specs.PrivateChoice.{row_at, listed_rows, WholeChoice}
 use Rattle.choice.proofs.WholeLaws.{whole_alike, taken, taken_low, candidates_zero, count_ranked, count_full, determined}
 use Rattle.archive.specs.Read.{row_in, Blind, among, Enough}
-use Rattle.reading.specs.PrivateRows.{rows_in}
+use Rattle.reading.specs.PrivateRows.{RowsIn}
 use Rattle.reading.proofs.PlaceRowLaws.{row_in_lem}
 
 -- the choice among the rows of some places of an archive
@@ -27,19 +27,18 @@ pub chosen_alike : (z : Sizes) (s : List ℕ) (f g : ℕ → Bool) (c : Chosen) 
 chosen_alike z s f g c = whole_alike (place_count z) z.m (row_in z s) (row_in z s) f g c (λ k i h l. refl)
 
 -- the rows by where they stand are those of the places
-module _ (z : Sizes) (s : List ℕ) (rows : Rows) (c : Chosen) (is : rows ≡ rows_in z) where
-  pub chosen_in : (filled : ℕ → Bool) → WholeChoice rows.count rows.m (row_at s rows) filled c → ChosenIn z s filled c
+module _ (z : Sizes) (s : List ℕ) (rows : Rows) (c : Chosen) (is : RowsIn z s rows) where
+  pub chosen_in : (filled : ℕ → Bool) → WholeChoice rows.count rows.m (row_at rows) filled c → ChosenIn z s filled c
   chosen_in filled w =
-      whole_alike (place_count z) z.m (row_at s (rows_in z)) (row_in z s) filled filled c (λ k i h l. row_in_lem z s k i) (λ k h. refl)
-      (subst (λ (x : Rows). WholeChoice x.count x.m (row_at s x) filled c) is w)
+      whole_alike (place_count z) z.m (row_at rows) (row_in z s) filled filled c (λ k i h l. row_in_lem z s is k i) (λ k h. refl)
+      (subst (λ (m : ℕ). WholeChoice (place_count z) m (row_at rows) filled c) is.m
+      (subst (λ (count : ℕ). WholeChoice count rows.m (row_at rows) filled c) is.count w))
 
-  pub reduced_in : {a t : Matrix} {rank : ℕ} → ((j i : ℕ) → j < c.count → i < rows.m → a j i ≡ row_at s rows (at c.numbers j) i)
+  pub reduced_in : {a t : Matrix} {rank : ℕ} → ((j i : ℕ) → j < c.count → i < rows.m → a j i ≡ row_at rows (at c.numbers j) i)
       → Reduces c.count z.m a t rank → Reduces c.count z.m (listed_rows (row_in z s) c) t rank
   reduced_in {a} {t} {rank} same =
       reduces_same c.count z.m a (listed_rows (row_in z s) c)
-      (λ j i h l.
-      subst (λ (x : Rows). ((j i : ℕ) → j < c.count → i < x.m → a j i ≡ row_at s x (at c.numbers j) i)) is same j i h l
-      ∙ row_in_lem z s (at c.numbers j) i)
+      (λ j i h l. same j i h (omega (arith, l, is.m)) ∙ row_in_lem z s is (at c.numbers j) i)
       t rank
 
 module _ (z : Sizes) (s : List ℕ) (filled : ℕ → Bool) (c : Chosen) (chosen : ChosenIn z s filled c) (t : Matrix) (rank : ℕ)

@@ -1,7 +1,6 @@
 // The file, from the records of the places taken.
 ghost use Rattle.std.specs.Prelude.{◌≡◌, false, ℕ, ◌+◌, ◌-◌, ◌<◌, ◌≤◌, length};
 ghost use Rattle.lists.specs.Lists.{at, grid};
-ghost use Rattle.field.specs.PrivateTables.{FieldTables};
 ghost use Rattle.sizes.specs.Sizes.{sizes_outside};
 ghost use Rattle.vector.specs.Vectors.{mixed, added};
 ghost use Rattle.linear.specs.PrivateElimination.{cells};
@@ -11,29 +10,27 @@ ghost use Rattle.archive.specs.Layout.{byte_in};
 use field::Tables;
 use sizes::Sizes;
 
-// To the n - 2 bytes from `from` on, the data of m places is added, each times its coefficient.
+// To the data of a block, that of m places is added, each times its coefficient.
 fn add_places(
     tables: &Tables,
     archive: &[u8],
     z: Sizes,
     places: [u8; 16],
     coefficients: [u8; 16],
-    file: &mut [u8],
-    from: usize,
+    block: &mut [u8],
 )
-    requires { FieldTables tables.now
-        × (sizes_outside z ≡ false)
+    requires { (sizes_outside z ≡ false)
         × ((t : ℕ) → t < z.m → at places t < place_count z)
         × (length archive.now ≡ archive_length z)
-        × (from + (z.n - 2) ≤ length file.old) }
+        × (length block.old ≡ z.n - 2) }
     ensures { let archive = archive.entry.now in
-        file.new
-        ≡ added (z.n - 2) from (mixed z.m (at coefficients) (λ t. byte_in z archive (at places t))) file.old }
+        block.new
+        ≡ added (z.n - 2) 0 (mixed z.m (at coefficients) (λ t. byte_in z archive (at places t))) block.old }
 {
     let len = z.n - 2;
     for t in 0..z.m {
-        let start = sizes::record_start(z, lists::widen(places[t]));
-        vector::add_multiple(tables, coefficients[t], archive, start, file, from, len);
+        let start = sizes::record_start(z, usize::from(places[t]));
+        vector::add_multiple(tables, coefficients[t], &archive[start..start + len], block);
     }
 }
 
@@ -53,11 +50,14 @@ pub fn solve(
         file.new
         ≡ grid z.m (z.n - 2) 0 (λ i. mixed z.m (cells combinations i) (λ t. byte_in z archive (at places t))) file.old }
 {
-    let tables = field::tables();
+    let tables = Tables::new();
     let len = z.n - 2;
     for i in 0..z.m {
         let coefficients = combinations[i];
-        lists::zero(file, i * len, len);
-        add_places(&tables, archive, z, places, coefficients, file, i * len);
+        // By row: after chunks_exact_mut no fact of what was written is left.
+        let from = i * len;
+        file[from..from + len].fill(0);
+        let block = &mut file[from..from + len];
+        add_places(&tables, archive, z, places, coefficients, block);
     }
 }

@@ -2,8 +2,8 @@
 #![tactic(auto)]
 
 ghost use Rattle.std.specs.Prelude.{◌≡◌, ◌<◌, length};
-ghost use Rattle.answer.specs.declared.Outcome.{Outcome};
-ghost use Rattle.answer.specs.Numbers.{outcome_number, NumberedAnswer};
+ghost use Rattle.answer.specs.Answer.{Outcome, Counted};
+ghost use Rattle.answer.specs.Numbers.{answer_number, NumberedAnswer};
 ghost use Rattle.field.specs.Field.{times, inverse_of};
 ghost use Rattle.keystream.specs.Block.{block_answer, block_out};
 ghost use Rattle.tag.specs.Vector.{vector_answer, vector_out};
@@ -15,8 +15,7 @@ ghost use Rattle.archive.specs.Open.{open_answer, open_out};
 ghost use Rattle.archive.specs.Calls as Calls;
 ghost use Rattle.archive.specs.Calls.{archive_answer, archive_after, scratch_after};
 ghost use Rattle.archive.specs.Prove.{prove_answer, prove_out};
-ghost use Rattle.answer.specs.declared.Counted.{Counted};
-ghost use Rattle.answer.specs.Counted.{counted_number, counted_value, CountedAnswer};
+ghost use Rattle.answer.specs.Counted.{counted_value, CountedAnswer};
 ghost use Rattle.archive.specs.Inventory.{inventory_answer, inventory_out};
 ghost use Rattle.archive.specs.Read.{ReadAllows};
 ghost use Rattle.archive.specs.Plan.{PlanAllows};
@@ -26,7 +25,7 @@ ghost use Rattle.archive.specs.Gather.{gather_answer, gather_after};
 ghost use Rattle.archive.specs.Told.{sizes_answer, size_after, rows_answer, rows_out};
 ghost use Rattle.sizes.specs.declared.Sizes.{Sizes};
 
-use answer::Counted;
+use answer::Refusal;
 
 #[unsafe(no_mangle)]
 pub extern "C" fn span_multiply(a: u8, b: u8) -> u8
@@ -47,7 +46,7 @@ pub extern "C" fn span_block(key: &[u8], counter: u32, nonce: &[u8], out: &mut [
     ensures number { let key = key.entry.now in
         let nonce = nonce.entry.now in
         let out = out.entry.now in
-        result ≡ outcome_number (block_answer key nonce out) }
+        result ≡ answer_number (block_answer key nonce out) }
     ensures output { let key = key.entry.now in
         let nonce = nonce.entry.now in
         out.new ≡ block_out key counter nonce out.old }
@@ -67,7 +66,7 @@ pub extern "C" fn span_vector(
     ensures number { let tag_key = tag_key.now in
         let id = id.entry.now in
         let out = out.entry.now in
-        result ≡ outcome_number (vector_answer tag_key id n m s out) }
+        result ≡ answer_number (vector_answer tag_key id n m s out) }
     ensures output { let tag_key = tag_key.now in
         let id = id.entry.now in
         out.new ≡ vector_out tag_key id n m s out.old }
@@ -88,7 +87,7 @@ pub extern "C" fn span_setup(
         let mask_key = mask_key.now in
         let id = id.entry.now in
         let auxiliary = auxiliary.entry.now in
-        result ≡ outcome_number (setup_answer tag_key mask_key id n tags auxiliary) }
+        result ≡ answer_number (setup_answer tag_key mask_key id n tags auxiliary) }
     ensures output { let tag_key = tag_key.now in
         let mask_key = mask_key.now in
         let id = id.entry.now in
@@ -110,7 +109,7 @@ pub extern "C" fn span_unmask(
         let mask_key = mask_key.now in
         let response = response.entry.now in
         let out = out.entry.now in
-        result ≡ outcome_number (unmask_answer n tags id mask_key response out) }
+        result ≡ answer_number (unmask_answer n tags id mask_key response out) }
     ensures output { let id = id.entry.now in
         let mask_key = mask_key.now in
         let response = response.entry.now in
@@ -149,7 +148,7 @@ pub extern "C" fn span_challenge(
     ensures number { let places = places.entry.now in
         let coefficients = coefficients.entry.now in
         let message = message.entry.now in
-        result ≡ outcome_number (challenge_answer (challenge_for node places coefficients) message) }
+        result ≡ answer_number (challenge_answer (challenge_for node places coefficients) message) }
     ensures output { let places = places.entry.now in
         let coefficients = coefficients.entry.now in
         message.new ≡ challenge_out (challenge_for node places coefficients) message.old }
@@ -197,7 +196,7 @@ pub extern "C" fn span_open(
     ensures number { let z : Sizes = record { n = n; m = m; places = places; nodes = nodes; tags = tags } in
         let id = id.entry.now in
         let archive = archive.entry.now in
-        result ≡ outcome_number (open_answer layout z id archive) }
+        result ≡ answer_number (open_answer layout z id archive) }
     ensures output { let z : Sizes = record { n = n; m = m; places = places; nodes = nodes; tags = tags } in
         let id = id.entry.now in
         archive.new ≡ open_out layout z id archive.old }
@@ -220,7 +219,7 @@ pub extern "C" fn span_encode(
         let padding = padding.entry.now in
         let tag_key = tag_key.now in
         let row = row.entry.now in
-        result ≡ outcome_number (archive_answer archive (Calls.encode node place file padding tag_key row)) }
+        result ≡ answer_number (archive_answer archive (Calls.encode node place file padding tag_key row)) }
     ensures output { let file = file.entry.now in
         let padding = padding.entry.now in
         let tag_key = tag_key.now in
@@ -232,7 +231,7 @@ pub extern "C" fn span_encode(
 
 #[unsafe(no_mangle)]
 pub extern "C" fn span_lose(archive: &mut [u8], node: usize) -> u8
-    ensures number { result ≡ outcome_number (archive_answer archive.old (Calls.lose node)) }
+    ensures number { result ≡ answer_number (archive_answer archive.old (Calls.lose node)) }
     ensures output { archive.new ≡ archive_after archive.old (Calls.lose node) }
 {
     answer::number(archive::lose(archive, node))
@@ -253,7 +252,7 @@ pub extern "C" fn span_prove(
         let seed = seed.entry.now in
         let message = message.entry.now in
         let response = response.entry.now in
-        result ≡ outcome_number (prove_answer archive mask_key auxiliary seed message response) }
+        result ≡ answer_number (prove_answer archive mask_key auxiliary seed message response) }
     ensures output { let archive = archive.entry.now in
         let mask_key = mask_key.now in
         let auxiliary = auxiliary.entry.now in
@@ -279,7 +278,7 @@ pub extern "C" fn span_repair(
         let gammas = gammas.entry.now in
         let thetas = thetas.entry.now in
         let scratch = scratch.entry.now in
-        result ≡ outcome_number (archive_answer archive (Calls.repair target helpers q gammas thetas (length scratch))) }
+        result ≡ answer_number (archive_answer archive (Calls.repair target helpers q gammas thetas (length scratch))) }
     ensures output { let helpers = helpers.entry.now in
         let gammas = gammas.entry.now in
         let thetas = thetas.entry.now in
@@ -297,7 +296,7 @@ pub extern "C" fn span_repair(
 
 #[unsafe(no_mangle)]
 pub extern "C" fn span_gather(archive: &mut [u8], share: &[u8], node: usize) -> u8
-    ensures number { result ≡ outcome_number (gather_answer archive.old share.now node) }
+    ensures number { result ≡ answer_number (gather_answer archive.old share.now node) }
     ensures output { archive.new ≡ gather_after archive.old share.now node }
 {
     answer::number(gathering::gather(archive, share, node))
@@ -313,7 +312,7 @@ pub extern "C" fn span_sizes(
     nodes: &mut usize,
     tags: &mut usize,
 ) -> u8
-    ensures number { result ≡ outcome_number (sizes_answer archive.now) }
+    ensures number { result ≡ answer_number (sizes_answer archive.now) }
     ensures layout { let s = archive.now in layout.new ≡ size_after s (layout_of s) layout.old }
     ensures n { let s = archive.now in n.new ≡ size_after s (sizes_of s).n n.old }
     ensures m { let s = archive.now in m.new ≡ size_after s (sizes_of s).m m.old }
@@ -326,29 +325,27 @@ pub extern "C" fn span_sizes(
 
 #[unsafe(no_mangle)]
 pub extern "C" fn span_rows(archive: &[u8], node: usize, rows: &mut [u8]) -> u8
-    ensures number { result ≡ outcome_number (rows_answer archive.now node rows.old) }
+    ensures number { result ≡ answer_number (rows_answer archive.now node rows.old) }
     ensures output { rows.new ≡ rows_out archive.now node rows.old }
 {
     answer::number(gathering::rows(archive, node, rows))
 }
 
 // The number of an answer; its value, where it has one, is written.
-fn tell(answer: Counted, value: &mut u8) -> u8
+fn tell(answer: Result<usize, Refusal>, value: &mut u8) -> u8
     requires { counted_value answer 0 < 256 }
-    ensures number { result ≡ counted_number answer }
+    ensures number { result ≡ answer_number answer }
     ensures output { value.new ≡ counted_value answer value.old }
 {
-    let number = answer::counted_number(answer);
-    if let Counted::Count(k) = answer {
+    if let Ok(k) = answer {
         *value = (k % 256) as u8;
-        return number;
     }
-    number
+    answer::number(answer)
 }
 
 #[unsafe(no_mangle)]
 pub extern "C" fn span_inventory(archive: &[u8], list: &mut [u8], count: &mut u8) -> u8
-    ensures number { result ≡ counted_number (inventory_answer archive.now list.old) }
+    ensures number { result ≡ answer_number (inventory_answer archive.now list.old) }
     ensures value { count.new ≡ counted_value (inventory_answer archive.now list.old) count.old }
     ensures output { list.new ≡ inventory_out archive.now list.old }
 {

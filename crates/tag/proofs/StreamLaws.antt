@@ -17,10 +17,10 @@ key_byte : (key id : List ℕ) (s i : ℕ) → byte_at key (1 ∷ s ∷ 0 ∷ 0 
 unfolding key_vector F1
 key_byte key id s i = let q : i + 1 - 1 ≡ i = omega arith in rw q refl
 
-module _ (key id : List ℕ) (s : ℕ) {k nonce : List ℕ} (keys : k ≡ key) (ids : nonce ≡ 1 ∷ s ∷ 0 ∷ 0 ∷ id) where
-  pub key_streamed : {stream : Stream} → stream ≡ fresh k nonce → GivesKeyVector key id s stream
-  key_streamed e i = rw (e, keys, ids) (draws_in_order key (1 ∷ s ∷ 0 ∷ 0 ∷ id) i ∙ key_byte key id s i)
+module _ (key id : List ℕ) (s : ℕ) {nonce : List ℕ} (ids : nonce ≡ 1 ∷ s ∷ 0 ∷ 0 ∷ id) where
+  pub key_streamed : {stream : Stream} → stream ≡ fresh key nonce → GivesKeyVector key id s stream
+  key_streamed e i = rw (e, ids) (draws_in_order key (1 ∷ s ∷ 0 ∷ 0 ∷ id) i ∙ key_byte key id s i)
 
-  pub key_filled : (count : ℕ) (before : List ℕ) {w : List ℕ} → w ≡ put (64 * count) 0 (byte_at k nonce) before
+  pub key_filled : (count : ℕ) (before : List ℕ) {w : List ℕ} → w ≡ put (64 * count) 0 (byte_at key nonce) before
       → w ≡ put (64 * count) 0 (key_vector key id s) before
-  key_filled count before e = e ∙ rw (keys, ids) (put_same (64 * count) 0 _ _ before (λ i h. key_byte key id s i))
+  key_filled count before e = e ∙ rw ids (put_same (64 * count) 0 _ _ before (λ i h. key_byte key id s i))

@@ -1,5 +1,5 @@
 -- Vectors added to part of a list: the steps of the loop that adds one, and of the loops that add a combination. Assumes nothing.
-use Prim.Native.Nat.{ℕ, zero, suc, ◌+◌, ◌-◌, ◌*◌, ◌<◌, ◌≤◌}
+use Prim.Native.Nat.{ℕ, zero, suc, ◌+◌, ◌*◌, ◌<◌, ◌≤◌}
 use mathlib.Core.Path.{◌≡◌, refl, sym, ap, ◌∙◌}
 use mathlib.Core.List.{List}
 use native.Mathlib.Nat.{mul-le-mul_right}
@@ -24,6 +24,9 @@ added_step e from v d {s} {x} p q =
     let r : at s (from + e) ≡ at d (from + e) = ap (λ (l : List ℕ). at l (from + e)) p ∙ put_above e from _ d (from + e) (omega arith) in
     put_more e from _ d p refl (rw (r, q))
 
+pub added_front : (e : ℕ) (v : ℕ → ℕ) (d : List ℕ) {s : List ℕ} {x : ℕ} → s ≡ added e 0 v d → x ≡ v e → set s e (plus (at s e) x) ≡ added (e + 1) 0 v d
+added_front e v d {s} {x} p q = let z : 0 + e ≡ e = omega arith in rw z at (added_step e 0 v d p q)
+
 pub added_none : (from : ℕ) (v : ℕ → ℕ) (d : List ℕ) → d ≡ added 0 from v d
 unfolding added put
 added_none from v d = refl
@@ -35,6 +38,9 @@ length_added len from v d = length_put len from _ d
 pub added_at : (len from : ℕ) (v : ℕ → ℕ) (d : List ℕ) (e : ℕ) → e < len → from + len ≤ length d → at (added len from v d) (from + e) ≡ plus (at d (from + e)) (v e)
 unfolding added
 added_at len from v d e h l = put_at len from _ d e h l
+
+pub added_front_at : (len : ℕ) (v : ℕ → ℕ) (d : List ℕ) (e : ℕ) → e < len → len ≤ length d → at (added len 0 v d) e ≡ plus (at d e) (v e)
+added_front_at len v d e h l = let z : 0 + e ≡ e = omega arith in rw z at (added_at len 0 v d e h (omega arith))
 
 pub added_below : (len from : ℕ) (v : ℕ → ℕ) (d : List ℕ) (k : ℕ) → k < from → at (added len from v d) k ≡ at d k
 unfolding added
@@ -98,11 +104,7 @@ module _ (len from : ℕ) (c : ℕ → ℕ) (v : ℕ → ℕ → ℕ) (d : List 
       q ∙ ap (added len from w) p ∙ added_twice len from (mixed i c v) w d fits
       ∙ added_same len from _ (mixed (i + 1) c v) d (λ e l. sum_more i (λ j. times (c j) (v j e)) refl (h e l))
 
--- ---- where a combination's coefficients and vectors stand
-
--- coefficient i, by steps
-pub coefficient_in : (first step count i : ℕ) {n : ℕ} → i < count → (0 < count → first + (count - 1) * step < n) → first + i * step < n
-coefficient_in first step count i h f = omega (arith, f (omega arith), mul-le-mul_right {m = i} {n = count - 1} step (omega arith))
+-- ---- where a combination's vectors stand
 
 -- vector i, one after another
 pub vector_in : (start len count i : ℕ) {n : ℕ} → i < count → start + count * len ≤ n → start + i * len + len ≤ n

@@ -3,3 +3,4 @@ pub mod AddedLaws
 pub mod SpanLaws
 pub mod VanishingLaws
 pub mod TakenLaws
+pub mod SliceLaws

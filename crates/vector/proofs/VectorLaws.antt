@@ -1,13 +1,16 @@
 -- Combinations are linear in their coefficients, products in both vectors. Assumes nothing.
-use Prim.Native.Nat.{ℕ, ◌+◌, ◌-◌, ◌<◌, ◌≤◌}
-use mathlib.Core.Path.{◌≡◌, sym, ap, ◌∙◌}
-use mathlib.Core.Bool.{true, false, not}
+use Prim.Native.Nat.{ℕ, zero, suc, ◌+◌, ◌-◌, ◌<◌, ◌≤◌}
+use mathlib.Core.Path.{◌≡◌, refl, sym, ap, ◌∙◌}
+use mathlib.Core.Bool.{Bool, true, false, not, ◌&&◌}
+use mathlib.Core.List.{List, [], ◌∷◌}
 use mathlib.Core.Logic.{◌≢◌}
 use native.Mathlib.Omega.{arith}
 use lib.Dec.{eqb, ltb}
 use lib.Bits.{xor_zero_r}
 use borrow.Author.Tests.{lt-ltb, le-ltb, eq-eqb, ne_eqb}
-use Rattle.lists.specs.Lists.{pick}
+use lib.ListN.{length}
+use Rattle.std.specs.List.{list_all}
+use Rattle.lists.specs.Lists.{pick, at, any_below}
 use Rattle.lists.proofs.AnyLaws.{any_same, any_none, any_some}
 use Rattle.field.specs.Field.{plus, sum, times}
 use Rattle.field.proofs.SumLaws.{sum_same, sum_zero, sum_swap, sum_split, sum_plus, sum_lt}
@@ -108,3 +111,25 @@ zero_all len v h = ap not (any_none len _ (λ e l. ap not (eq-eqb (v e) 0 (h e l
 pub zero_not : (len : ℕ) (v : ℕ → ℕ) (e : ℕ) → e < len → v e ≢ 0 → all_zero len v ≡ false
 unfolding all_zero
 zero_not len v e l h = ap not (any_some len _ e l (ap not (ne_eqb (v e) 0 h)))
+
+-- some index below one more: the first, or one of the others
+any_first : (n : ℕ) (p : ℕ → Bool) → any_below (suc n) p ≡ pick (p 0) true (any_below n (λ i. p (suc i)))
+unfolding any_below
+any_first zero p = refl
+any_first (suc n) p = ap (pick (p (suc n)) true) (any_first n p) ∙ exchanged (p (suc n)) (p 0) (any_below n (λ i. p (suc i)))
+  where
+    exchanged : (a b c : Bool) → pick a true (pick b true c) ≡ pick b true (pick a true c)
+    exchanged true true c = refl
+    exchanged true false c = refl
+    exchanged false b c = refl
+
+-- every element of a list is zero
+pub zero_list : (xs : List ℕ) → list_all (λ x. eqb x 0) xs ≡ all_zero (length xs) (at xs)
+unfolding all_zero any_below
+zero_list [] = refl
+zero_list (x ∷ xs) =
+    both (eqb x 0) _ _ (zero_list xs) ∙ ap not (sym (any_first (length xs) (λ i. not (eqb (at (x ∷ xs) i) 0))))
+  where
+    both : (b t u : Bool) → t ≡ not u → (b && t) ≡ not (pick (not b) true u)
+    both true t u e = e
+    both false t u e = refl

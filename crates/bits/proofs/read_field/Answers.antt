@@ -1,20 +1,24 @@
+use Prim.Native.Nat.{◌<◌}
+use mathlib.Core.Path.{◌≡◌, refl, sym}
 use native.Mathlib.Omega.{arith}
-use mathlib.Core.Path.{◌≡◌, sym}
-use Rattle.bits.proofs.PackLaws.{bit_flag, field_none, field_more, field_small}
+use borrow.Author.Rules.{rules}
+use Rattle.std.proofs.iter.Serving.{serving}
+use Rattle.lists.proofs.RangeLaws.{fold_may, fold_ends}
+use Rattle.bits.specs.Fields.{field_at}
+use Rattle.bits.proofs.PackLaws.{field_none, field_more, field_small}
 use Rattle.bits.proofs.read_field.Goals as goal
 
-pub loop-i-init : goal.loop-i-init
-loop-i-init c = (omega arith, sym (field_none _ _))
-
-pub overflow_mul-value : goal.overflow_mul-value
-overflow_mul-value c = omega (arith, field_small _ _ _ _ c.loop-i.invariant.1 (omega arith))
-
-pub overflow_add-value : goal.overflow_add-value
-overflow_add-value c =
-    omega (arith, field_small _ _ _ _ c.loop-i.invariant.1 (omega arith), bit_flag _ _ _ c.bit_at.ensures)
-
-pub loop-i-preserved : goal.loop-i-preserved
-loop-i-preserved c = (omega arith, field_more _ _ _ _ _ c.loop-i.invariant.1 c.bit_at.ensures)
+pub fold-requires-clause-callable : goal.fold-requires-clause-callable
+fold-requires-clause-callable c =
+    let s = c.args.s.now in
+    let from = c.args.from in
+    fold_may _ _ (λ k x. x ≡ field_at s from k) c.args.width (λ k x y q l i called. search (rules, field_more)) _ _ refl (omega arith) (sym (field_none s from))
+    (λ k x l i.
+    let small : x < 65536 = field_small s from k x i (omega arith) in
+    grind (serving, small))
 
 pub returns : goal.returns
-returns c = let e : c.loop-i.i ≡ c.args.width = omega arith in cc
+returns c =
+    let s = c.args.s.now in
+    let from = c.args.from in
+    fold_ends _ _ (λ k x. x ≡ field_at s from k) c.args.width (λ k x y q l i called. search (rules, field_more)) _ _ refl (omega arith) (sym (field_none s from)) _ c.fold.ensures.ran

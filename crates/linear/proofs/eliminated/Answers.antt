@@ -15,23 +15,11 @@ columns-init c = head_start _ _ _ _ (λ i j l b. c.unit-t.ensures i j (omega ari
 pub search-init : goal.search-init
 search-init c = (omega arith, refl, λ i l b. absurd (omega arith))
 
-pub columns-smaller-then-r-k : goal.columns-smaller-then-r-k
-columns-smaller-then-r-k c = omega arith
-
 pub columns-preserved-then-r-k : goal.columns-preserved-then-r-k
 columns-preserved-then-r-k c =
     let l = c.columns in
     let s = c.search in
     head_skip _ _ _ _ _ _ _ s.r (head_at s.invariant.1 l.invariant) (omega arith) (rw s.invariant.1 s.invariant.2) (omega arith)
-
-pub offset_bounds-e-r : goal.offset_bounds-e-r
-offset_bounds-e-r c = omega arith
-
-pub overflow_add-r : goal.overflow_add-r
-overflow_add-r c = omega arith
-
-pub search-smaller : goal.search-smaller
-search-smaller c = omega arith
 
 pub search-preserved : goal.search-preserved
 search-preserved c =
@@ -39,61 +27,13 @@ search-preserved c =
     let s = c.search in
     (omega arith, s.invariant.1, below_more (λ i. l.top ≤ i → cells l.e i l.col ≡ 0) _ s.invariant.2 (λ b. ap (cells l.e _) (sym s.invariant.1) ∙ c.if-e-r-ne0.false))
 
-pub offset_bounds-e-q : goal.offset_bounds-e-q
-offset_bounds-e-q c = omega arith
-
 pub rows-init : goal.rows-init
 rows-init c = (omega arith, omega arith, clear_start_lem _ _ _ _ (search rules), clear_start_lem _ _ _ _ (search rules))
-
-pub rows-smaller-then-i-top : goal.rows-smaller-then-i-top
-rows-smaller-then-i-top c = omega arith
 
 pub rows-preserved-then-i-top : goal.rows-preserved-then-i-top
 rows-preserved-then-i-top c =
     let l = c.rows in
     (omega arith, l.invariant.1, clear_skip _ _ _ _ l.e l.i c.if-i-top.true l.invariant.2, clear_skip _ _ _ _ l.t l.i c.if-i-top.true l.invariant.3)
-
-pub offset_bounds-e-i : goal.offset_bounds-e-i
-offset_bounds-e-i c = omega arith
-
-pub offset_bounds-e-i-in-rows : goal.offset_bounds-e-i-in-rows
-offset_bounds-e-i-in-rows c = omega arith
-
-pub bounds-e-i-in-rows : goal.bounds-e-i-in-rows
-bounds-e-i-in-rows c = omega arith
-
-pub offset_bounds-e-top : goal.offset_bounds-e-top
-offset_bounds-e-top c = omega arith
-
-pub bounds-e-top : goal.bounds-e-top
-bounds-e-top c = omega arith
-
-pub offset_bounds-e-i-in-rows-2 : goal.offset_bounds-e-i-in-rows-2
-offset_bounds-e-i-in-rows-2 c = omega arith
-
-pub bounds-e-i-in-rows-2 : goal.bounds-e-i-in-rows-2
-bounds-e-i-in-rows-2 c = omega arith
-
-pub offset_bounds-t-i : goal.offset_bounds-t-i
-offset_bounds-t-i c = omega arith
-
-pub bounds-t-i : goal.bounds-t-i
-bounds-t-i c = omega arith
-
-pub offset_bounds-t-top : goal.offset_bounds-t-top
-offset_bounds-t-top c = omega arith
-
-pub bounds-t-top : goal.bounds-t-top
-bounds-t-top c = omega arith
-
-pub offset_bounds-t-i-in-rows : goal.offset_bounds-t-i-in-rows
-offset_bounds-t-i-in-rows c = omega arith
-
-pub bounds-t-i-in-rows : goal.bounds-t-i-in-rows
-bounds-t-i-in-rows c = omega arith
-
-pub rows-smaller : goal.rows-smaller
-rows-smaller c = omega arith
 
 pub rows-preserved : goal.rows-preserved
 rows-preserved c =
@@ -104,12 +44,6 @@ rows-preserved c =
       clear_store _ _ _ _ l.e l.i _ c.added_row.result c.if-i-top.false (omega arith) l.invariant.2 x c.added_row.ensures,
       clear_store _ _ _ _ l.t l.i _ c.added_row-in-rows.result c.if-i-top.false (omega arith) l.invariant.3 x c.added_row-in-rows.ensures,
     )
-
-pub overflow_add-top : goal.overflow_add-top
-overflow_add-top c = omega arith
-
-pub columns-smaller : goal.columns-smaller
-columns-smaller c = omega arith
 
 pub columns-preserved : goal.columns-preserved
 columns-preserved c =

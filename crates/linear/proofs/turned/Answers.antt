@@ -9,14 +9,14 @@ use Rattle.linear.proofs.ArrayLaws.{stored}
 use Rattle.linear.proofs.turned.Goals as goal
 
 pub loop-i-init : goal.loop-i-init
-loop-i-init c = (omega arith, refl, λ q l. absurd (omega arith))
+loop-i-init c = (refl, λ q l. absurd (omega arith))
 
 pub loop-i-preserved : goal.loop-i-preserved
 loop-i-preserved c =
     let l = c.loop-i in
     let a = c.args.a in
     let turned : ℕ → List ℕ → Type 0 = λ q x. (j : ℕ) → j < 16 → at x j ≡ cells a j q in
-    (omega arith, length-set l.out _ _ ∙ l.invariant.1, stored [] l.out l.i _ turned (omega arith) l.invariant.2 c.column.ensures)
+    (length-set l.row-items _ _ ∙ l.invariant.0, stored [] l.row-items l.i _ turned (omega arith) l.invariant.1 c.column.ensures)
 
 pub returns : goal.returns
-returns c = λ i j l. c.loop-i.invariant.2 i (omega arith) j
+returns c = λ i j l. c.loop-i.invariant.1 i (omega arith) j

@@ -9,23 +9,16 @@ use Rattle.linear.proofs.RowStoreLaws.{units}
 use Rattle.linear.proofs.unit.Goals as goal
 
 pub loop-i-init : goal.loop-i-init
-loop-i-init c = (refl, omega arith, (λ q l. absurd (omega arith)), λ q l b. get_or-replicate 16 q (replicate 16 0) [] b)
-
-pub offset_bounds-out-i : goal.offset_bounds-out-i
-offset_bounds-out-i c = omega arith
-
-pub loop-i-smaller : goal.loop-i-smaller
-loop-i-smaller c = omega arith
+loop-i-init c = (refl, (λ q l. absurd (omega arith)), λ q l b. get_or-replicate 16 q (replicate 16 0) [] b)
 
 pub loop-i-preserved : goal.loop-i-preserved
 loop-i-preserved c =
     let l = c.loop-i in (
-      length-set l.out _ _ ∙ l.invariant.0,
-      omega arith,
-      stored [] l.out l.i _ (λ q x. x ≡ set (replicate 16 0) q 1) (omega arith) l.invariant.2
-          (ap (λ (x : List ℕ). set x l.i 1) (l.invariant.3 l.i (omega arith) (omega arith))),
-      λ q b n. stored_kept [] l.out l.i q _ (omega arith) ∙ l.invariant.3 q (omega arith) n,
+      length-set l.row-items _ _ ∙ l.invariant.0,
+      stored [] l.row-items l.i _ (λ q x. x ≡ set (replicate 16 0) q 1) (omega arith) l.invariant.1
+          (ap (λ (x : List ℕ). set x l.i 1) (l.invariant.2 l.i (omega arith) (omega arith))),
+      λ q b n. stored_kept [] l.row-items l.i q _ (omega arith) ∙ l.invariant.2 q (omega arith) n,
     )
 
 pub returns : goal.returns
-returns c = λ i j l b. ap (λ (x : List ℕ). at x j) (c.loop-i.invariant.2 i (omega arith)) ∙ units i j l b
+returns c = λ i j l b. ap (λ (x : List ℕ). at x j) (c.loop-i.invariant.1 i (omega arith)) ∙ units i j l b

@@ -1,3 +1,4 @@
+use Rattle.lists.proofs.SliceLaws.{tab_filled}
 use Prim.Native.Nat.{◌≤◌}
 use mathlib.Core.Path.{◌≡◌, sym, subst}
 use native.Mathlib.Omega.{arith}
@@ -24,7 +25,7 @@ loop-x-init c =
       omega arith,
       (read_sizes _ read c.requires.0).nodes_high,
       subst (λ (z : Sizes). c.args.k ≤ z.nodes) (sym read) c.requires.1,
-      listed_none _ _ _ c.requires.2 c.clear.ensures,
+      listed_none _ _ _ c.requires.2 (tab_filled _ 0 (c.fill.ensures.after (λ y e. e))),
     )
 
 pub listed-requires : goal.listed-requires

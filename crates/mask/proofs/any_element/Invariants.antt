@@ -1,4 +1,4 @@
-use Prim.Native.Nat.{ℕ, ◌≤◌, ◌<◌}
+use Prim.Native.Nat.{ℕ, ◌<◌}
 use mathlib.Core.Path.{◌≡◌}
 use Rattle.keystream.specs.PrivateStream.{after}
 use Rattle.tag.specs.KeyVector.{key_vector}
@@ -7,4 +7,4 @@ use Rattle.mask.proofs.any_element.Given as goal
 
 abbrev pub invariant-loop : goal.invariant-loop
 invariant-loop l =
-    (l.counter ≤ l.len) × (l.vector ≡ after l.counter l.initial.vector) × GivesKeyVector l.tag_key l.id l.s l.initial.vector × ((e : ℕ) → e < l.counter → key_vector l.tag_key l.id l.s e ≡ 0)
+    (l.vector ≡ after l.counter l.initial.vector) × GivesKeyVector l.fn.tag_key l.fn.id l.s l.initial.vector × ((e : ℕ) → e < l.counter → key_vector l.fn.tag_key l.fn.id l.s e ≡ 0)

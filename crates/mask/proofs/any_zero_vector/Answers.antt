@@ -1,33 +1,19 @@
-use borrow.Author.Count.{below_more}
-use mathlib.Core.Path.{sym, ap, ◌∙◌}
-use mathlib.Core.Bool.{not}
+use borrow.Author.Rules.{rules}
+use Prim.Native.Nat.{◌-◌}
+use mathlib.Core.Path.{◌∙◌}
 use native.Mathlib.Omega.{arith}
-use Rattle.lists.proofs.AnyLaws.{any_some, any_none}
+use Rattle.std.proofs.Common.{tests}
+use Rattle.std.proofs.lemmas.Iterator.{YieldsList-from_range}
+use Rattle.std.proofs.lemmas.Iterator.Search.{any_from_yields_List}
+use Rattle.lists.proofs.ChainLaws.{any_to}
 use Rattle.vector.specs.Vectors.{all_zero}
+use Rattle.tag.specs.KeyVector.{key_vector}
 use Rattle.mask.proofs.any_zero_vector.Goals as goal
 
-pub loop-s-init : goal.loop-s-init
-loop-s-init c = (omega arith, λ k l. absurd (omega arith))
-
-pub overflow_sub-n : goal.overflow_sub-n
-overflow_sub-n c = let p = c.requires in omega arith
-
-pub any_element-requires : goal.any_element-requires
-any_element-requires c = let p = c.requires in (p.0, p.1, omega arith)
-
-pub returns-then-not-any_element : goal.returns-then-not-any_element
-unfolding all_zero
-returns-then-not-any_element c =
-    let l = c.loop-s in
-    sym (any_some _ _ l.s (omega arith) (ap not (sym c.any_element.ensures) ∙ ap not c.if-not-any_element.true))
-
-pub loop-s-preserved : goal.loop-s-preserved
-unfolding all_zero
-loop-s-preserved c =
-    let l = c.loop-s in
-    (omega arith, below_more _ _ l.invariant.1 (ap not (sym c.any_element.ensures) ∙ ap not c.if-not-any_element.false))
-
 pub returns : goal.returns
+unfolding all_zero
 returns c =
-    let i = c.loop-s.invariant in
-    sym (any_none _ _ (λ k l. i.1 k (omega arith)))
+    let a = c.args in
+    any_from_yields_List (λ s. all_zero (a.n - 2) (key_vector a.tag_key a.id s)) _ _ _ c.any.ensures.ran
+    (YieldsList-from_range 0 a.tags a.tags (cc) (omega arith)) (λ x b q k. search (rules, tests))
+    ∙ any_to _ a.tags

@@ -1,30 +1,21 @@
-use borrow.Author.Rules.{rules}
+use Prim.Native.Nat.{◌+◌, ◌*◌}
+use mathlib.Core.Path.{◌∙◌}
 use native.Mathlib.Omega.{arith}
 use Rattle.lists.proofs.PutLaws.{grid_none}
+use Rattle.lists.proofs.PartLaws.{length_part}
+use Rattle.sizes.specs.Lengths.{n_most}
 use Rattle.mask.proofs.SetupLaws.{vectors_more, vectors_at}
 use Rattle.mask.proofs.key_vectors.Goals as goal
 
 pub loop-s-init : goal.loop-s-init
-loop-s-init c = (omega arith, search rules, grid_none _ _ _ _, search rules)
-
-pub key_vector_into-requires : goal.key_vector_into-requires
-key_vector_into-requires c =
-    let p = c.requires in
-    (p.0, p.1, omega arith, search rules)
-
-pub store-requires : goal.store-requires
-store-requires c = (search rules, omega arith)
-
-pub overflow_mul-s : goal.overflow_mul-s
-overflow_mul-s c = omega arith
+loop-s-init c = grid_none _ _ _ _
 
 pub loop-s-preserved : goal.loop-s-preserved
 loop-s-preserved c =
     let l = c.loop-s in
-    let made = vectors_more _ _ _ l.s _ (search rules) c.key_vector_into.ensures l.invariant.2 c.store.ensures in
-    (omega arith, l.invariant.1, made, search rules)
+    let first = l.s * n_most in
+    vectors_more _ _ _ l.s _ (length_part first (first + n_most) l.vectors (omega arith) ∙ omega arith) c.requires.1 (omega arith) c.key_vector_into.ensures
+    l.invariant (omega arith) (omega arith)
 
 pub returns : goal.returns
-returns c =
-    let l = c.loop-s in
-    vectors_at _ _ _ _ _ l.invariant.1 (omega arith) (omega arith) l.invariant.2
+returns c = vectors_at _ _ _ _ _ c.requires.1 (omega arith) (omega arith) c.loop-s.invariant

@@ -1,4 +1,5 @@
-use borrow.Author.Rules.{rules}
+use mir.Syntax.{w8}
+use borrow.Author.Rules.{rules, elem_Fits}
 use mathlib.Core.Path.{◌≡◌, refl, subst}
 use native.Mathlib.Omega.{arith}
 use lib.ListN.{length}
@@ -25,7 +26,6 @@ pub repair_rows-sent-requires : goal.repair_rows-sent-requires
 repair_rows-sent-requires c =
     let a = c.args in
     let ok = plannable a.archive.now a.helpers.now a.q a.gammas.now a.rows.now a.thetas.now c.sizes_in-z.ensures c.requires in (
-      c.tables-tables.ensures,
       not_sizes_outside _ ok.sizes,
       ok.long,
       ok.q_low,
@@ -34,66 +34,55 @@ repair_rows-sent-requires c =
       ok.gammas_length,
     )
 
-pub choose-c-requires : goal.choose-c-requires
-choose-c-requires c =
+pub invariant_of-wanted : goal.invariant_of-wanted
+invariant_of-wanted c =
+    let a = c.args in
+    let ok = plannable a.archive.now a.helpers.now a.q a.gammas.now a.rows.now a.thetas.now c.sizes_in-z.ensures c.requires in
+    record { width = ok.sizes.m_high; few = ok.sizes.places_high; long = ok.rows_length }
+
+pub invariant_of-all-clause-standing : goal.invariant_of-all-clause-standing
+invariant_of-all-clause-standing c =
     let a = c.args in
     let ok = plannable a.archive.now a.helpers.now a.q a.gammas.now a.rows.now a.thetas.now c.sizes_in-z.ensures c.requires in
     let long : length c.repair_rows-sent.result ≡ 640 = search rules in
     standing _ _ c.repair_rows-sent.result (blocks_low _ _ ok.helpers_high ok.q_high) ok.sizes.m_high long
 
+pub invariant_of-all-clause-all_bytes : goal.invariant_of-all-clause-all_bytes
+invariant_of-all-clause-all_bytes c =
+    let sent = c.repair_rows-sent in
+    λ i h. (elem_Fits w8 w8 sent.result sent.type_inv.0 i sent.type_inv.1.1 tt).fits
+
 pub rows_of-taken-requires : goal.rows_of-taken-requires
 rows_of-taken-requires c =
     let w = c.choose-c.ensures in
+    (w.choice.fits, λ t h. omega (arith, w.choice.below t h, w.there))
+
+pub reduce-reduced-requires : goal.reduce-reduced-requires
+reduce-reduced-requires c =
     let a = c.args in
     let ok = plannable a.archive.now a.helpers.now a.q a.gammas.now a.rows.now a.thetas.now c.sizes_in-z.ensures c.requires in
-    let long : length c.repair_rows-sent.result ≡ 640 = search rules in
-    (standing _ _ c.repair_rows-sent.result (blocks_low _ _ ok.helpers_high ok.q_high) ok.sizes.m_high long, w.choice.fits, λ t h. omega (arith, w.choice.below t h, w.there))
+    (ok.sizes.m_high, omega (arith, c.choose-c.ensures.choice.fits, ok.sizes.m_high))
 
-pub reduce-combinations-requires : goal.reduce-combinations-requires
-reduce-combinations-requires c =
-    let a = c.args in
-    let ok = plannable a.archive.now a.helpers.now a.q a.gammas.now a.rows.now a.thetas.now c.sizes_in-z.ensures c.requires in
-    let w = c.choose-c.ensures in
-    (ok.sizes.m_high, omega (arith, w.choice.fits, ok.sizes.m_high))
-
-pub reaches-requires : goal.reaches-requires
-reaches-requires c =
-    let a = c.args in
-    let ok = plannable a.archive.now a.helpers.now a.q a.gammas.now a.rows.now a.thetas.now c.sizes_in-z.ensures c.requires in (
-      c.tables-tables.ensures,
-      ok.sizes.m_high,
-      ok.sizes.places_high,
-      omega (arith, c.choose-c.ensures.choice.fits),
-      ok.rows_length,
-    )
-
-pub returns-then-not-reaches : goal.returns-then-not-reaches
-returns-then-not-reaches c =
+pub returns-then-not-reached : goal.returns-then-not-reached
+returns-then-not-reached c =
     let a = c.args in
     let z = c.sizes_in-z in
     let ok = plannable a.archive.now a.helpers.now a.q a.gammas.now a.rows.now a.thetas.now z.ensures c.requires in
     let few = blocks_low _ _ ok.helpers_high ok.q_high in
     let sent = c.repair_rows-sent in
     let choose = c.choose-c in
-    let reduce = c.reduce-combinations in
+    let reduce = c.reduce-reduced in
     let R = reduced z.result a.archive.now a.helpers.now a.q a.gammas.now sent.result few sent.ensures choose.result choose.ensures
     c.rows_of-taken.result c.turned.result ok.sizes.m_high c.rows_of-taken.ensures c.turned.ensures reduce.ensures in
     refuses z.result a.archive.now a.helpers.now a.q a.gammas.now sent.result few sent.ensures choose.result choose.ensures
-    a.rows.now a.thetas.now _ _ R z.ensures c.requires (cell_bytes reduce.result reduce.type_inv.0 reduce.type_inv.1.1)
-    (subst (Reaching _ _ _ _ _) c.if-not-reaches.true c.reaches.ensures)
+    a.rows.now a.thetas.now _ _ R z.ensures c.requires (cell_bytes reduce.result.combinations reduce.type_inv.1.1.1.0.0 reduce.type_inv.1.1.1.0.1.1)
+    (subst (Reaching _ _ _ _ _) c.if-not-reached.true c.reached.ensures)
 
 pub write_thetas-requires : goal.write_thetas-requires
 write_thetas-requires c =
     let a = c.args in
-    let ok = plannable a.archive.now a.helpers.now a.q a.gammas.now a.rows.now a.thetas.now c.sizes_in-z.ensures c.requires in (
-      c.tables-tables.ensures,
-      ok.sizes.m_high,
-      ok.sizes.places_high,
-      omega (arith, c.choose-c.ensures.choice.fits, ok.sizes.m_high),
-      blocks_low _ _ ok.helpers_high ok.q_high,
-      ok.rows_length,
-      ok.thetas_length,
-    )
+    let ok = plannable a.archive.now a.helpers.now a.q a.gammas.now a.rows.now a.thetas.now c.sizes_in-z.ensures c.requires in
+    (omega (arith, c.choose-c.ensures.choice.fits, ok.sizes.m_high), blocks_low _ _ ok.helpers_high ok.q_high, ok.thetas_length)
 
 pub returns : goal.returns
 returns c =
@@ -103,10 +92,10 @@ returns c =
     let few = blocks_low _ _ ok.helpers_high ok.q_high in
     let sent = c.repair_rows-sent in
     let choose = c.choose-c in
-    let reduce = c.reduce-combinations in
+    let reduce = c.reduce-reduced in
     let R = reduced z.result a.archive.now a.helpers.now a.q a.gammas.now sent.result few sent.ensures choose.result choose.ensures
     c.rows_of-taken.result c.turned.result ok.sizes.m_high c.rows_of-taken.ensures c.turned.ensures reduce.ensures in
     plans z.result a.archive.now a.helpers.now a.q a.gammas.now sent.result few sent.ensures choose.result choose.ensures
     a.rows.now a.thetas.now _ _ R z.ensures c.requires ok (λ i. (c.type_inv.rows i).fits)
-    (subst (Reaching _ _ _ _ _) c.if-not-reaches.false c.reaches.ensures)
+    (subst (Reaching _ _ _ _ _) c.if-not-reached.false c.reached.ensures)
     c.write_thetas.ensures

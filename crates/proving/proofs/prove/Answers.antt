@@ -4,22 +4,14 @@ use Rattle.archive.specs.Prove.{prove_out}
 use Rattle.proving.proofs.prove.Goals as goal
 
 pub write_response-requires : goal.write_response-requires
-write_response-requires c = sym c.prove_check-answer.ensures ∙ c.in-Done.is
+write_response-requires c = sym c.prove_check.ensures ∙ c.in_ok-prove_check.was
 
-pub returns-in-Done : goal.returns-in-Done
+pub returns-clause-output : goal.returns-clause-output
 unfolding prove_out
-returns-in-Done c =
-    let a = c.prove_check-answer.ensures in
-    record {
-      answer = a;
-      output = written _ a c.in-Done.is c.write_response.ensures;
-    }
+returns-clause-output c =
+    let a = c.prove_check.ensures in written _ a c.in_ok-prove_check.was c.write_response.ensures
 
-pub returns-in_default : goal.returns-in_default
+pub returns-in_err-prove_check-clause-output : goal.returns-in_err-prove_check-clause-output
 unfolding prove_out
-returns-in_default c =
-    let a = c.prove_check-answer.ensures in
-    record {
-      answer = a;
-      output = kept _ a c.in_default.is;
-    }
+returns-in_err-prove_check-clause-output c =
+    let a = c.prove_check.ensures in kept _ a c.in_err-prove_check.was

@@ -1,9 +1,11 @@
 use borrow.Author.Rules.{rules}
-use mathlib.Core.Path.{◌≡◌, ap, ◌∙◌}
+use mathlib.Core.Path.{◌≡◌, ap, sym, ◌∙◌}
 use native.Mathlib.Omega.{arith}
-use lib.ListN.{length}
 use Rattle.sizes.specs.declared.Sizes.{Sizes}
-use Rattle.archive.proofs.GoodArchiveLaws.{good_length, good_id}
+use Rattle.lists.proofs.ArrayLaws.{array_is}
+use Rattle.message.specs.Challenge.{Challenge}
+use Rattle.message.proofs.ChallengeReadLaws.{read_ok, read_says}
+use Rattle.archive.proofs.GoodArchiveLaws.{good_length}
 use Rattle.archive.proofs.CallLaws.{read_sizes}
 use Rattle.archive.proofs.ProveCheckLaws.{provable, proved_is}
 use Rattle.proving.proofs.write_response.Goals as goal
@@ -12,22 +14,29 @@ pub sizes_in-z-requires : goal.sizes_in-z-requires
 sizes_in-z-requires c =
     omega (arith, good_length _ (provable _ _ _ _ _ _ c.requires).good)
 
+pub unwrap-challenge-requires : goal.unwrap-challenge-requires
+unwrap-challenge-requires c =
+    read_ok _ c.read.ensures (provable _ _ _ _ _ _ c.requires).formed
+
 pub named_record-combined-requires : goal.named_record-combined-requires
 named_record-combined-requires c =
     let P = provable _ _ _ _ _ _ c.requires in
-    (c.tables-tables.ensures, P.good, P.formed, P.there)
+    (P.good, rw (← (read_says _ c.read.ensures c.unwrap-challenge.ensures).1) P.there)
 
-pub node_in-node-requires : goal.node_in-node-requires
-node_in-node-requires c =
-    (provable _ _ _ _ _ _ c.requires).formed
+pub unwrap-requires : goal.unwrap-requires
+unwrap-requires c = c.try_from-2.ensures.0 (provable _ _ _ _ _ _ c.requires).key_length_lem
 
-pub key_array-key-requires : goal.key_array-key-requires
-key_array-key-requires c =
-    (provable _ _ _ _ _ _ c.requires).key_length_lem
+pub unwrap-seed-requires : goal.unwrap-seed-requires
+unwrap-seed-requires c = c.try_from.ensures.0 (provable _ _ _ _ _ _ c.requires).seed_length_lem
 
-pub id_in-id-requires : goal.id_in-id-requires
-id_in-id-requires c =
+pub id_in-requires : goal.id_in-requires
+id_in-requires c =
     omega (arith, good_length _ (provable _ _ _ _ _ _ c.requires).good)
+
+pub invariant_of-rows : goal.invariant_of-rows
+invariant_of-rows c =
+    let R = read_sizes _ c.sizes_in-z.ensures (provable _ _ _ _ _ _ c.requires).good in
+    record { n_low = R.n_low; n_high = R.n_high }
 
 pub write_parts-requires : goal.write_parts-requires
 write_parts-requires c =
@@ -35,19 +44,18 @@ write_parts-requires c =
     let R = read_sizes _ c.sizes_in-z.ensures P.good in
     let n : c.sizes_in-z.result.n ≡ _ = ap (λ (x : Sizes). x.n) c.sizes_in-z.ensures in
     let tags : c.sizes_in-z.result.tags ≡ _ = ap (λ (x : Sizes). x.tags) c.sizes_in-z.ensures in (
-      omega (arith, c.node_in-node.ensures.1),
-      R.n_low,
-      R.n_high,
+      omega (arith, c.node-node.ensures.1),
       R.m_high,
       R.tags_high,
       search rules,
-      ap length c.id_in-id.ensures ∙ good_id _ P.good,
       rw (n, tags) P.elements_length,
-      P.seed_length_lem,
       rw (n, tags) P.response_length_lem,
     )
 
 pub returns : goal.returns
 returns c =
-    proved_is _ _ _ _ _ c.named_record-combined.result (provable _ _ _ _ _ _ c.requires).good c.sizes_in-z.ensures c.node_in-node.ensures.0
-    c.key_array-key.ensures c.id_in-id.ensures c.named_record-combined.ensures c.write_parts.ensures
+    let says = (read_says _ c.read.ensures c.unwrap-challenge.ensures).1 in
+    let key = array_is _ _ _ _ c.try_from-2.ensures.1 c.unwrap.ensures in
+    let seed = array_is _ _ _ _ c.try_from.ensures.1 c.unwrap-seed.ensures in
+    proved_is _ _ _ _ _ c.named_record-combined.result (provable _ _ _ _ _ _ c.requires).good c.sizes_in-z.ensures (c.node-node.ensures.0 ∙ ap (λ (m : Challenge). m.node) (sym says))
+    key c.id_in.ensures (rw says c.named_record-combined.ensures) (rw (← seed) c.write_parts.ensures)

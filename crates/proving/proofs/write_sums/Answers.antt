@@ -1,35 +1,23 @@
 use Prim.Native.Nat.{◌+◌, ◌-◌}
-use mathlib.Core.Path.{◌≡◌, refl}
 use native.Mathlib.Nat.{mul-le-mul_right}
 use native.Mathlib.Omega.{arith}
-use lib.ListN.{length-set}
-use Rattle.lists.proofs.PutLaws.{put_none, put_more}
+use lib.ListN.{length}
+use Rattle.lists.proofs.PutLaws.{put_none}
+use Rattle.lists.proofs.ChainLaws.{item_more, items_all}
 use Rattle.proving.proofs.write_sums.Goals as goal
 
 pub loop-s-init : goal.loop-s-init
-loop-s-init c = (omega arith, refl, put_none _ _ _)
+loop-s-init c = put_none _ _ _
 
 pub mask_sum-requires : goal.mask_sum-requires
 mask_sum-requires c =
     let s = c.loop-s.s in (
-      c.requires.0,
-      c.requires.1,
-      omega (arith, c.requires.2),
-      c.requires.3,
-      omega (arith, c.requires.4, mul-le-mul_right {m = s + 1} {n = c.args.tags} (c.args.n - 1) (omega arith)),
+      omega (arith, c.requires.0),
+      omega (arith, c.requires.1, mul-le-mul_right {m = s + 1} {n = length c.args.sums.now} (c.args.rows.now.n - 1) (omega arith)),
     )
 
-pub bounds-response-n : goal.bounds-response-n
-bounds-response-n c =
-    let p = c.requires in
-    omega (arith, p.5, c.loop-s.invariant.1)
-
 pub loop-s-preserved : goal.loop-s-preserved
-loop-s-preserved c =
-    let l = c.loop-s in
-    (omega arith, simp length-set l.invariant.1, put_more _ _ _ _ l.invariant.2 (omega arith) c.mask_sum.ensures)
+loop-s-preserved c = item_more _ _ _ c.loop-s.invariant c.mask_sum.ensures
 
 pub returns : goal.returns
-returns c =
-    let s : c.loop-s.s ≡ c.args.tags = omega arith in
-    rw s at c.loop-s.invariant.2
+returns c = items_all _ _ _ _ (omega arith) c.loop-s.auto.sums c.loop-s.invariant

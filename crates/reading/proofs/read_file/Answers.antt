@@ -20,8 +20,8 @@ take-chosen-requires c =
     let read = c.sizes_in-z.ensures in
     (not_sizes_outside _ (read_sizes _ read c.requires.0), read_length _ read c.requires.0)
 
-pub eliminate-combinations-requires : goal.eliminate-combinations-requires
-eliminate-combinations-requires c =
+pub eliminate-reduced-requires : goal.eliminate-reduced-requires
+eliminate-reduced-requires c =
     let read = c.sizes_in-z.ensures in
     let w = c.take-chosen.ensures in (
       not_sizes_outside _ (read_sizes _ read c.requires.0),
@@ -30,24 +30,24 @@ eliminate-combinations-requires c =
       λ t h. omega (arith, w.choice.below t h, w.there),
     )
 
-pub returns-then-rank-z : goal.returns-then-rank-z
-returns-then-rank-z c =
-    refuses _ _ _ (chosen_alike _ _ _ _ _ c.marks.ensures c.take-chosen.ensures) _ _ c.eliminate-combinations.ensures _
-    c.requires.0 c.sizes_in-z.ensures c.requires.1 c.if-rank-z.true
+pub returns-then-reduced-z : goal.returns-then-reduced-z
+returns-then-reduced-z c =
+    refuses _ _ _ (chosen_alike _ _ _ _ _ c.marks.ensures c.take-chosen.ensures) _ _ c.eliminate-reduced.ensures _
+    c.requires.0 c.sizes_in-z.ensures c.requires.1 c.if-reduced-z.true
 
 pub solve-requires : goal.solve-requires
 solve-requires c =
     let w = c.take-chosen.ensures in
-    let r = c.eliminate-combinations.ensures in (
+    let r = c.eliminate-reduced.ensures in (
       not_sizes_outside _ (read_sizes _ c.sizes_in-z.ensures c.requires.0),
-      λ t h. omega (arith, w.choice.below t (omega (arith, h, c.if-rank-z.false, r.at_most_rows)), w.there),
+      λ t h. omega (arith, w.choice.below t (omega (arith, h, c.if-reduced-z.false, r.at_most_rows)), w.there),
       read_length _ c.sizes_in-z.ensures c.requires.0,
       c.requires.1 ∙ sym (ap file_length c.sizes_in-z.ensures),
     )
 
 pub returns : goal.returns
 returns c =
-    let reduced = c.eliminate-combinations.ensures in
+    let reduced = c.eliminate-reduced.ensures in
     reads _ _ _ (chosen_alike _ _ _ _ _ c.marks.ensures c.take-chosen.ensures) _ _ reduced _
     c.requires.0 c.sizes_in-z.ensures c.requires.1 (λ i. (c.type_inv.archive i).fits)
-    (omega (arith, c.if-rank-z.false, reduced.at_most_columns)) c.solve.ensures
+    (omega (arith, c.if-reduced-z.false, reduced.at_most_columns)) c.solve.ensures

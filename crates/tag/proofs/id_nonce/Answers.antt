@@ -1,11 +1,7 @@
-use mathlib.Core.Path.{ap}
-use mathlib.Core.List.{List, ◌∷◌}
-use Prim.Native.Nat.{ℕ}
-use Rattle.lists.specs.Lists.{tab}
-use Rattle.lists.proofs.TabLaws.{elements}
+use Rattle.std.proofs.lemmas.List.{take_at, drop_at, append-nil}
 use Rattle.tag.proofs.id_nonce.Goals as goal
 
 pub returns : goal.returns
-unfolding tab
 returns c =
-    ap (λ (l : List ℕ). c.args.a ∷ c.args.b ∷ c.args.c ∷ c.args.d ∷ l) (elements 8 c.args.id.now c.requires)
+    let head = c.copy_from_slice.ensures in
+    rw (c.copy_from_slice-2.ensures.after, take_at c.copy_from_slice.new.self _ 4 head.len, drop_at c.copy_from_slice.new.self _ 4 head.len, append-nil, head.after)

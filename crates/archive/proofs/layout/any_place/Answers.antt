@@ -1,44 +1,32 @@
-use borrow.Author.Count.{below_more}
-use mathlib.Core.Path.{◌≡◌, refl, sym, ap, ◌∙◌}
+use borrow.Author.Rules.{rules}
+use borrow.Author.Tests.{tests}
+use mathlib.Core.Path.{◌≡◌, refl, ◌∙◌}
 use mathlib.Core.Bool.{Bool, true, false, not, beq}
-use native.Mathlib.Omega.{arith}
+use Rattle.std.proofs.iter.Serving.{serving}
+use Rattle.std.proofs.lemmas.Iterator.{serves_from_Range}
 use Rattle.lists.specs.Lists.{pick}
-use Rattle.lists.proofs.AnyLaws.{any_some, any_none}
+use Rattle.lists.proofs.AnyLaws.{any_same}
+use Rattle.lists.proofs.RangeLaws.{any_from_zero}
 use Rattle.sizes.proofs.SizeLaws.{ranged}
 use Rattle.sizes.proofs.PlaceLaws.{number_mark}
+use Rattle.archive.specs.Layout.{filled_in}
 use Rattle.archive.proofs.layout.any_place.Goals as goal
 
 -- the test of one place
-tested : (filled mark : Bool) {m t : Bool} → m ≡ mark → beq m filled ≡ t → pick filled mark (not mark) ≡ t
-tested filled mark e f = is filled mark ∙ ap (λ (m : Bool). beq m filled) (sym e) ∙ f
-  where
-    is : (filled mark : Bool) → pick filled mark (not mark) ≡ beq mark filled
-    is true true = refl
-    is true false = refl
-    is false true = refl
-    is false false = refl
+tested : (mark filled : Bool) → beq mark filled ≡ pick filled mark (not mark)
+tested true true = refl
+tested true false = refl
+tested false true = refl
+tested false false = refl
 
-pub loop-k-init : goal.loop-k-init
-loop-k-init c = λ j l. absurd (omega arith)
-
-pub overflow_add-node : goal.overflow_add-node
-overflow_add-node c =
-    omega (arith, number_mark _ (ranged _ c.requires.0) _ _ c.requires.1 c.loop-k-test.true)
-
-pub overflow_mul-node : goal.overflow_mul-node
-overflow_mul-node c =
-    omega (arith, number_mark _ (ranged _ c.requires.0) _ _ c.requires.1 c.loop-k-test.true)
-
-pub marked-requires : goal.marked-requires
-marked-requires c =
-    (number_mark _ (ranged _ c.requires.0) _ _ c.requires.1 c.loop-k-test.true, c.requires.2)
-
-pub returns-then-marked-filled : goal.returns-then-marked-filled
-returns-then-marked-filled c =
-    sym (any_some _ _ c.loop-k.k c.loop-k-test.true (tested _ _ c.marked.ensures c.if-marked-filled.true))
-
-pub loop-k-preserved : goal.loop-k-preserved
-loop-k-preserved c = below_more _ _ c.loop-k.invariant (tested _ _ c.marked.ensures c.if-marked-filled.false)
+pub any-requires-clause-callable : goal.any-requires-clause-callable
+any-requires-clause-callable c = serves_from_Range (λ k q called. search (rules, tests)) (λ k l h.
+    let low = number_mark _ (ranged _ c.requires.0) _ k c.requires.1 h in
+    grind (serving, low))
 
 pub returns : goal.returns
-returns c = sym (any_none _ _ (λ j l. c.loop-k.invariant j (omega arith)))
+returns c =
+    let filled = c.args.filled in
+    let mark = filled_in c.args.z c.args.archive.now c.args.node in
+    any_from_zero _ _ (λ k. beq (mark k) filled) (λ k b q called. search (rules, tests)) _ _ _ refl c.any.ensures.ran
+    ∙ any_same c.args.z.places (λ k. beq (mark k) filled) (λ k. pick filled (mark k) (not (mark k))) (λ k l. tested (mark k) filled)

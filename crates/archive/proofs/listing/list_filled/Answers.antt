@@ -1,3 +1,4 @@
+use Rattle.lists.proofs.SliceLaws.{tab_filled}
 use mathlib.Core.Path.{sym, ap, ◌∙◌}
 use native.Mathlib.Omega.{arith}
 use Rattle.lists.proofs.ListingLaws.{listing_size, listing_none, listing_skip, listing_take}
@@ -21,7 +22,7 @@ loop-k-init c = (
   omega arith,
   ap (λ (z : Sizes). z.places) c.sizes_in-z.ensures,
   count_read c.sizes_in-z.ensures,
-  listing_none _ _ _ c.requires.1 c.clear.ensures,
+  listing_none _ _ _ c.requires.1 (tab_filled _ 0 (c.fill.ensures.after (λ y e. e))),
   omega arith,
 )
 

@@ -1,3 +1,4 @@
+use Rattle.lists.proofs.SliceLaws.{put_filled}
 use mathlib.Core.Path.{refl}
 use native.Mathlib.Omega.{arith}
 use native.Mathlib.Nat.{mul-le-mul}
@@ -16,8 +17,8 @@ set_marks-requires c =
     let done = c.requires in
     (places_low _ _ done c.sizes_in-z.ensures, long_enough _ _ done refl)
 
-pub record_start-requires : goal.record_start-requires
-record_start-requires c =
+pub record_start-start-requires : goal.record_start-start-requires
+record_start-start-requires c =
     let done = c.requires in
     (lose_sized _ _ done c.sizes_in-z.ensures, omega (arith, places_low _ _ done c.sizes_in-z.ensures, (lose_ranged _ _ done c.sizes_in-z.ensures).places_low))
 
@@ -30,12 +31,17 @@ overflow_mul-z c =
     let high = (lose_ranged _ _ c.requires c.sizes_in-z.ensures).places_high in
     omega (arith, mul-le-mul {n₂ = places_most} {m₂ = record_most} high c.record_length.ensures.1)
 
-pub zero-requires : goal.zero-requires
-zero-requires c =
-    records_fit _ _ c.requires c.sizes_in-z.ensures _ c.set_marks.ensures c.record_start.ensures
-    c.record_length.ensures.0
+pub overflow_add-start : goal.overflow_add-start
+overflow_add-start c =
+    let fits = records_fit _ _ c.requires c.sizes_in-z.ensures _ c.set_marks.ensures c.record_start-start.ensures c.record_length.ensures.0 in
+    omega (arith, fits)
+
+pub slice_bounds-fill-end : goal.slice_bounds-fill-end
+slice_bounds-fill-end c =
+    records_fit _ _ c.requires c.sizes_in-z.ensures _ c.set_marks.ensures c.record_start-start.ensures c.record_length.ensures.0
 
 pub returns : goal.returns
 returns c =
-    node_emptied _ _ c.requires c.sizes_in-z.ensures c.set_marks.ensures c.record_start.ensures
-    c.record_length.ensures.0 c.zero.ensures
+    node_emptied _ _ c.requires c.sizes_in-z.ensures c.set_marks.ensures c.record_start-start.ensures
+    c.record_length.ensures.0 (put_filled _ _ 0 _ (omega arith)
+    (records_fit _ _ c.requires c.sizes_in-z.ensures _ c.set_marks.ensures c.record_start-start.ensures c.record_length.ensures.0) (c.fill.ensures.after (λ y e. e)))

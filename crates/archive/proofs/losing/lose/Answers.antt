@@ -4,22 +4,14 @@ use Rattle.archive.specs.Calls.{archive_after}
 use Rattle.archive.proofs.losing.lose.Goals as goal
 
 pub empty_node-requires : goal.empty_node-requires
-empty_node-requires c = sym c.lose_check-answer.ensures ∙ c.in-Done.is
+empty_node-requires c = sym c.lose_check.ensures ∙ c.in_ok-lose_check.was
 
-pub returns-in-Done : goal.returns-in-Done
+pub returns-clause-output : goal.returns-clause-output
 unfolding archive_after
-returns-in-Done c =
-    let a = c.lose_check-answer.ensures in
-    record {
-      answer = a;
-      output = written _ a c.in-Done.is c.empty_node.ensures;
-    }
+returns-clause-output c =
+    let a = c.lose_check.ensures in written _ a c.in_ok-lose_check.was c.empty_node.ensures
 
-pub returns-in_default : goal.returns-in_default
+pub returns-in_err-lose_check-clause-output : goal.returns-in_err-lose_check-clause-output
 unfolding archive_after
-returns-in_default c =
-    let a = c.lose_check-answer.ensures in
-    record {
-      answer = a;
-      output = kept _ a c.in_default.is;
-    }
+returns-in_err-lose_check-clause-output c =
+    let a = c.lose_check.ensures in kept _ a c.in_err-lose_check.was

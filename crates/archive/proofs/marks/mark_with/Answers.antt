@@ -1,15 +1,27 @@
-use mathlib.Core.Bool.{true, false}
-use Rattle.archive.proofs.MarkLaws.{mark_before, mark_behind, mark_among}
+use Prim.Native.Nat.{◌+◌, ◌<◌, ◌≤◌}
+use mathlib.Core.Path.{sym, ◌∙◌}
+use mathlib.Core.Logic.{⊎_elim}
+use native.Mathlib.Omega.{arith}
+use borrow.Author.Rules.{rules}
+use borrow.Author.Tests.{tests}
+use Rattle.std.proofs.lemmas.Grind.{common_steps}
+use Rattle.lists.proofs.TabLaws.{order}
+use Rattle.lists.proofs.OverLaws.{over_within, over_below, over_above}
 use Rattle.archive.proofs.marks.mark_with.Goals as goal
 
-pub returns-then-i-k : goal.returns-then-i-k
-returns-then-i-k c = mark_before _ _ _ _ _ c.read_field.ensures c.if-i-k.true
+pub returns-then-contains : goal.returns-then-contains
+returns-then-contains c =
+    let a = c.args in
+    let w : (a.k ≤ a.i) × (a.i < a.k + a.count) = search (rules, tests) in
+    sym (over_within a.k a.count _ _ a.i w.0 w.1)
 
-pub returns-then-k-count : goal.returns-then-k-count
-returns-then-k-count c = mark_behind _ _ _ _ _ c.read_field-then-k-count.ensures c.if-k-count.true
-
-pub returns-then-v : goal.returns-then-v
-returns-then-v c = mark_among _ _ _ _ _ true c.if-v.true c.if-i-k.false c.if-k-count.false
-
-pub returns-else-v : goal.returns-else-v
-returns-else-v c = mark_among _ _ _ _ _ false c.if-v.false c.if-i-k.false c.if-k-count.false
+pub returns-else-contains : goal.returns-else-contains
+returns-else-contains c =
+    let a = c.args in
+    c.marked.ensures
+    ∙ sym
+    (⊎_elim (λ (l : a.i < a.k). over_below a.k a.count _ _ a.i l)
+    (λ (m : a.k ≤ a.i).
+    let w : a.k + a.count ≤ a.i = grind (arith, common_steps) in
+    over_above a.k a.count _ _ a.i w)
+    (order a.i a.k))

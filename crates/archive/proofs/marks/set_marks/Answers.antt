@@ -1,17 +1,18 @@
+use Prim.Native.Nat.{ℕ}
 use borrow.Author.Rules.{rules}
 use mathlib.Core.Path.{refl}
-use native.Mathlib.Omega.{arith}
-use Rattle.lists.proofs.PutLaws.{put_none, put_more}
-use Rattle.archive.proofs.MarkLaws.{marks_kept, marks_written}
+use mathlib.Core.Bool.{Bool}
+use Rattle.lists.specs.Lists.{at}
+use Rattle.lists.proofs.SliceLaws.{put_whole}
+use Rattle.lists.proofs.RangeLaws.{array_tab}
+use Rattle.bits.specs.Fields.{packed}
+use Rattle.archive.proofs.MarkLaws.{new_marks, marks_written}
 use Rattle.archive.proofs.marks.set_marks.Goals as goal
 
-pub loop-j-init : goal.loop-j-init
-loop-j-init c = (omega arith, refl, put_none _ _ _)
-
-pub loop-j-preserved : goal.loop-j-preserved
-loop-j-preserved c =
-    let i = c.loop-j.invariant in
-    (omega arith, search rules, put_more _ _ _ _ i.2 refl (marks_kept _ _ _ _ _ _ _ c.loop-j-test.true i.2 c.mark_byte-byte.ensures))
-
 pub returns : goal.returns
-returns c = marks_written _ _ (omega arith) c.loop-j.invariant.2
+returns c =
+    let a = c.args in
+    let made = c.from_fn-marks.ensures.items in
+    let new : ℕ → Bool = new_marks a.s.now a.k a.count a.v in
+    marks_written new a.s.now (array_tab _ _ (at (packed 6 new)) 6 (λ j y q l called. search rules) made)
+    (put_whole 6 12 c.from_fn-marks.result a.s.now refl c.requires.1 made.long c.copy_from_slice.ensures.after)

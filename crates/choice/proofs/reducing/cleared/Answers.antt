@@ -13,18 +13,6 @@ use Rattle.choice.proofs.reducing.cleared.Goals.{then-reduced-p-ne0, else-reduce
 pub loop-p-init : goal.loop-p-init
 loop-p-init c = (omega arith, cleared_start _ _ _ (λ i l. row_bytes c.args.v _ c.well_formed.1.1.0 i))
 
-pub offset_bounds-reduced-p : goal.offset_bounds-reduced-p
-offset_bounds-reduced-p c = omega (arith, c.requires.1)
-
-pub offset_bounds-reduced-p-then-reduced-p-ne0 : goal.offset_bounds-reduced-p-then-reduced-p-ne0
-offset_bounds-reduced-p-then-reduced-p-ne0 c = omega (arith, c.requires.1)
-
-pub bounds-reduced-p-then-reduced-p-ne0 : goal.bounds-reduced-p-then-reduced-p-ne0
-bounds-reduced-p-then-reduced-p-ne0 c = omega (arith, c.requires.1)
-
-pub bounds-out-p : goal.bounds-out-p
-bounds-out-p c = omega (arith, c.requires.1)
-
 pub loop-p-preserved : goal.loop-p-preserved
 loop-p-preserved c =
     let l = c.loop-p in
@@ -34,8 +22,8 @@ loop-p-preserved c =
       elim c.if-reduced-p-ne0.branch [
         | then-reduced-p-ne0 w ↦
             subst next (sym w.out-is)
-            (cleared_step l.p a.m (cells a.reduced) (at a.v) (at l.out) _ c.loop-p-test.true c.requires.2 l.invariant.1
-            (λ i h. w.added_row-out.ensures i (omega (arith, c.requires.1))))
+            (cleared_step l.p a.m (cells a.reduced) (at a.v) (at l.out) _ c.loop-p-test.true c.requires.1 l.invariant.1
+            (λ i h. w.added_row-out.ensures i (omega (arith, c.requires.0))))
         | else-reduced-p-ne0 w ↦
             subst next (sym w.out-is) (cleared_skip l.p a.m (cells a.reduced) (at a.v) (at l.out) w.if-reduced-p-ne0.false l.invariant.1)
       ],

@@ -1,47 +1,24 @@
-use borrow.Author.Rules.{rules, elem_Fits}
-use mathlib.Core.Path.{◌≡◌, sym}
 use native.Mathlib.Omega.{arith}
-use lib.ListN.{length}
-use mir.Syntax.{w8}
 use Rattle.sizes.proofs.SizeLaws.{ranged}
+use Rattle.coding.proofs.CombinedLaws.{combined_alone}
 use Rattle.coding.proofs.EncodeLaws.{block_written}
 use Rattle.coding.proofs.encoding.write_block.Goals as goal
 
-pub overflow_sub-n : goal.overflow_sub-n
-overflow_sub-n c = omega (arith, (ranged _ c.requires.1).n_low)
+pub overflow_sub-z : goal.overflow_sub-z
+overflow_sub-z c = omega (arith, (ranged _ c.requires.0).n_low)
 
-pub combine-requires : goal.combine-requires
-combine-requires c =
-    let p = c.requires in
-    let R = ranged _ p.1 in
-    let long : length c.args.row.bytes ≡ 16 = search rules in
-    (p.0, λ h. omega (arith, R.m_high, long), omega arith, omega (arith, R.n_low))
+pub split_at_mut-end-requires : goal.split_at_mut-end-requires
+split_at_mut-end-requires c = omega (arith, (ranged _ c.requires.0).n_low, c.split_at_mut-data.ensures.back_len, c.requires.4)
 
-pub overflow_sub-n-2 : goal.overflow_sub-n-2
-overflow_sub-n-2 c = omega (arith, (ranged _ c.requires.1).n_low)
-
-pub combine-requires-2 : goal.combine-requires-2
-combine-requires-2 c =
-    let p = c.requires in
-    let R = ranged _ p.1 in
-    let long : length c.args.row.bytes ≡ 16 = search rules in
-    (p.0, λ h. omega (arith, R.m_high, long), omega arith, omega (arith, R.n_low))
-
-pub slice_bounds-store-end : goal.slice_bounds-store-end
-slice_bounds-store-end c =
-    sym (c.well_formed.1.1.1.1.0.1.1.0.1.0.1)
-
-pub overflow_add-start-2 : goal.overflow_add-start-2
-overflow_add-start-2 c = omega (arith, c.requires.4)
-
-pub store-requires : goal.store-requires
-store-requires c =
-    let long : length c.args.row.bytes ≡ 16 = search rules in
-    (omega (arith, (ranged _ c.requires.1).m_high, long), search rules)
+pub copy_from_slice-requires : goal.copy_from_slice-requires
+copy_from_slice-requires c =
+    omega (arith, (ranged _ c.requires.0).n_low, c.split_at_mut-data.ensures.back_len, c.split_at_mut-end.ensures.back_len, c.requires.3, c.requires.4)
 
 pub returns : goal.returns
 returns c =
     let a = c.args in
-    block_written a.z a.file.now a.padding.now a.row.bytes a.start a.archive.now
-    (omega (arith, (ranged _ c.requires.1).n_low)) c.requires.4 (λ i h. (elem_Fits w8 w8 a.row.bytes c.well_formed.1.1.1.1.0.1.1.0.0 i c.well_formed.1.1.1.1.0.1.1.0.1.1 tt).fits)
-    c.zero.ensures c.combine.ensures c.combine-2.ensures c.store.ensures
+    block_written a.z a.file.now a.padding.now a.row.now (omega (arith, (ranged _ c.requires.0).n_low)) c.requires.3
+    (λ i. (c.type_inv.row i).fits)
+    (combined_alone _ _ _ a.file.now _ c.split_at_mut-data.ensures.front_len (c.fill.ensures.after (λ y e. e)) c.combine.ensures)
+    (combined_alone _ _ _ a.padding.now _ c.split_at_mut-end.ensures.front_len (c.fill-2.ensures.after (λ y e. e)) c.combine-2.ensures)
+    c.copy_from_slice.ensures.after

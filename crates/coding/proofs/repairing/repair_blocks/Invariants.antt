@@ -1,6 +1,5 @@
-use Prim.Native.Nat.{◌≤◌, ◌*◌, ◌/◌, ◌%◌}
+use Prim.Native.Nat.{◌/◌, ◌%◌}
 use mathlib.Core.Path.{◌≡◌}
-use lib.ListN.{length}
 use Rattle.lists.specs.Lists.{grid}
 use Rattle.archive.specs.Repair.{repair_byte}
 use Rattle.coding.proofs.RepairLaws.{Blocks}
@@ -8,5 +7,4 @@ use Rattle.coding.proofs.repairing.repair_blocks.Given as goal
 
 abbrev pub invariant-loop-t : goal.invariant-loop-t
 invariant-loop-t l =
-    (l.t ≤ l.t-end) × (l.t-end ≡ length l.helpers * l.q) × (length l.scratch ≡ length l.initial.scratch)
-    × (l.scratch ≡ grid l.t l.len 0 (λ i. repair_byte l.z l.archive l.helpers l.q l.gammas (i / l.q) (i % l.q)) l.initial.scratch) × Blocks l.z l.archive l.helpers l.q l.gammas l.initial.scratch l.len
+    (l.scratch ≡ grid l.t l.len 0 (λ i. repair_byte l.z l.archive l.helpers l.q l.gammas (i / l.q) (i % l.q)) l.initial.scratch) × Blocks l.z l.archive l.helpers l.q l.gammas l.initial.scratch l.len

@@ -1,3 +1,4 @@
+use Rattle.lists.proofs.SliceLaws.{put_copied}
 use mathlib.Core.Path.{refl}
 use native.Mathlib.Omega.{arith}
 use native.Mathlib.Nat.{mul-le-mul}
@@ -31,16 +32,24 @@ overflow_mul-len c =
     let high = (gather_ranged _ _ _ c.requires c.sizes_in-z.ensures).places_high in
     omega (arith, mul-le-mul {n₂ = places_most} {m₂ = record_most} high c.record_length.ensures.1)
 
-pub store-requires : goal.store-requires
-store-requires c =
-    let done = c.requires in
-    let read = c.sizes_in-z.ensures in
-    let len = c.record_length.ensures.0 in (
-      share_fits _ _ _ done read c.record_start-start.ensures len,
-      records_fit _ _ _ done read c.record_start-start.ensures len _ c.copy_marks.ensures,
-    )
+pub overflow_add-start : goal.overflow_add-start
+overflow_add-start c =
+    omega (arith, share_fits _ _ _ c.requires c.sizes_in-z.ensures c.record_start-start.ensures c.record_length.ensures.0)
+
+pub slice_bounds-copy_from_slice-end : goal.slice_bounds-copy_from_slice-end
+slice_bounds-copy_from_slice-end c =
+    omega (arith, records_fit _ _ _ c.requires c.sizes_in-z.ensures c.record_start-start.ensures c.record_length.ensures.0 _ c.copy_marks.ensures)
+
+pub slice_bounds-copy_from_slice-end-2 : goal.slice_bounds-copy_from_slice-end-2
+slice_bounds-copy_from_slice-end-2 c =
+    omega (arith, share_fits _ _ _ c.requires c.sizes_in-z.ensures c.record_start-start.ensures c.record_length.ensures.0)
 
 pub returns : goal.returns
 returns c =
-    node_gathered _ _ _ c.requires c.sizes_in-z.ensures c.record_start-start.ensures
-    c.record_length.ensures.0 c.copy_marks.ensures c.store.ensures
+    let done = c.requires in
+    let read = c.sizes_in-z.ensures in
+    let starts = c.record_start-start.ensures in
+    let len = c.record_length.ensures.0 in
+    node_gathered _ _ _ done read starts len c.copy_marks.ensures
+    (put_copied _ _ c.record_start-start.result _ _ (omega arith) (omega arith) (records_fit _ _ _ done read starts len _ c.copy_marks.ensures)
+    (share_fits _ _ _ done read starts len) c.copy_from_slice.ensures.after)

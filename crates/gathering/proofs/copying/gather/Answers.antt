@@ -4,22 +4,14 @@ use Rattle.archive.specs.Gather.{gather_after}
 use Rattle.gathering.proofs.copying.gather.Goals as goal
 
 pub copy_node-requires : goal.copy_node-requires
-copy_node-requires c = sym c.gather_check-answer.ensures ∙ c.in-Done.is
+copy_node-requires c = sym c.gather_check.ensures ∙ c.in_ok-gather_check.was
 
-pub returns-in-Done : goal.returns-in-Done
+pub returns-clause-output : goal.returns-clause-output
 unfolding gather_after
-returns-in-Done c =
-    let a = c.gather_check-answer.ensures in
-    record {
-      answer = a;
-      output = written _ a c.in-Done.is c.copy_node.ensures;
-    }
+returns-clause-output c =
+    let a = c.gather_check.ensures in written _ a c.in_ok-gather_check.was c.copy_node.ensures
 
-pub returns-in_default : goal.returns-in_default
+pub returns-in_err-gather_check-clause-output : goal.returns-in_err-gather_check-clause-output
 unfolding gather_after
-returns-in_default c =
-    let a = c.gather_check-answer.ensures in
-    record {
-      answer = a;
-      output = kept _ a c.in_default.is;
-    }
+returns-in_err-gather_check-clause-output c =
+    let a = c.gather_check.ensures in kept _ a c.in_err-gather_check.was

@@ -4,22 +4,14 @@ use Rattle.archive.specs.Told.{rows_out}
 use Rattle.gathering.proofs.telling.rows.Goals as goal
 
 pub write_rows-requires : goal.write_rows-requires
-write_rows-requires c = sym c.rows_check-answer.ensures ∙ c.in-Done.is
+write_rows-requires c = sym c.rows_check.ensures ∙ c.in_ok-rows_check.was
 
-pub returns-in-Done : goal.returns-in-Done
+pub returns-clause-output : goal.returns-clause-output
 unfolding rows_out
-returns-in-Done c =
-    let a = c.rows_check-answer.ensures in
-    record {
-      answer = a;
-      output = written _ a c.in-Done.is c.write_rows.ensures;
-    }
+returns-clause-output c =
+    let a = c.rows_check.ensures in written _ a c.in_ok-rows_check.was c.write_rows.ensures
 
-pub returns-in_default : goal.returns-in_default
+pub returns-in_err-rows_check-clause-output : goal.returns-in_err-rows_check-clause-output
 unfolding rows_out
-returns-in_default c =
-    let a = c.rows_check-answer.ensures in
-    record {
-      answer = a;
-      output = kept _ a c.in_default.is;
-    }
+returns-in_err-rows_check-clause-output c =
+    let a = c.rows_check.ensures in kept _ a c.in_err-rows_check.was

@@ -1,5 +1,6 @@
 use mathlib.Core.Path.{sym, ◌∙◌}
 use native.Mathlib.Omega.{arith}
+use Rattle.lists.proofs.SliceLaws.{tab_filled, tab_copied}
 use Rattle.sizes.proofs.SizeLaws.{not_sizes_outside}
 use Rattle.archive.proofs.GoodArchiveLaws.{good_length}
 use Rattle.archive.proofs.CallLaws.{read_sizes}
@@ -30,26 +31,28 @@ record_start-requires c =
     let p = c.requires in
     (not_sizes_outside _ (read_sizes _ read p.0), row_mark _ _ _ read p.0 p.1 p.2)
 
-pub overflow_add-record_start : goal.overflow_add-record_start
-overflow_add-record_start c =
+pub overflow_add-start : goal.overflow_add-start
+overflow_add-start c =
     let p = c.requires in
     omega (arith, row_in_lem _ _ _ c.sizes_in-z.ensures p.0 p.1 p.2)
 
-pub store-requires : goal.store-requires
-store-requires c =
+pub overflow_add-start-2 : goal.overflow_add-start-2
+overflow_add-start-2 c =
     let p = c.requires in
-    (omega (arith, row_in_lem _ _ _ c.sizes_in-z.ensures p.0 p.1 p.2), rw c.sizes_in-z.ensures p.3)
+    omega (arith, row_in_lem _ _ _ c.sizes_in-z.ensures p.0 p.1 p.2)
 
-pub returns-then-marked : goal.returns-then-marked
-returns-then-marked c =
-    row_stored _ _ _ c.sizes_in-z.ensures _ _ (sym c.marked.ensures ∙ c.if-marked.true) c.record_start.ensures
-    c.store.ensures
+pub slice_bounds-copy_from_slice-end : goal.slice_bounds-copy_from_slice-end
+slice_bounds-copy_from_slice-end c =
+    let p = c.requires in
+    omega (arith, row_in_lem _ _ _ c.sizes_in-z.ensures p.0 p.1 p.2)
 
-pub zero-requires : goal.zero-requires
-zero-requires c =
-    rw c.sizes_in-z.ensures c.requires.3
+pub returns-then-not-marked : goal.returns-then-not-marked
+returns-then-not-marked c =
+    row_empty _ _ _ c.sizes_in-z.ensures (sym c.marked.ensures ∙ c.if-not-marked.true)
+    (tab_filled _ 0 (rw (c.sizes_in-z.ensures, ← c.requires.3) (c.fill.ensures.after (λ y e. e))))
 
 pub returns : goal.returns
 returns c =
-    row_empty _ _ _ c.sizes_in-z.ensures _ _ (sym c.marked.ensures ∙ c.if-marked.false)
-    c.zero.ensures
+    let p = c.requires in
+    row_stored _ _ _ c.sizes_in-z.ensures (sym c.marked.ensures ∙ c.if-not-marked.false) c.record_start.ensures
+    (tab_copied _ _ _ (omega arith) (omega (arith, row_in_lem _ _ _ c.sizes_in-z.ensures p.0 p.1 p.2)) c.copy_from_slice.ensures.after)

@@ -1,6 +1,6 @@
 use Rattle.std.proofs.Common.{sym, ◌∙◌}
 use Rattle.answer.proofs.RefusalLaws.{refused, passed, differs_same, differs_other, after_done, after_refused}
-use Rattle.keystream.proofs.ChaChaLaws.{block_stored}
+use Rattle.keystream.proofs.ChaChaLaws.{block_made}
 use Rattle.keystream.specs.Block.{block_answer, block_out}
 use Rattle.keystream.proofs.chacha.block.Goals as goal
 
@@ -34,5 +34,5 @@ returns c =
     let e = passed _ _ (differs_same c.if-key-ne-KEY_LENGTH.false) ∙ passed _ _ (differs_same c.if-nonce-ne-NONCE_LENGTH.false) ∙ passed _ _ (differs_same c.if-out-ne-STREAM_BLOCK_LENGTH.false) in
     record {
       answer = sym e;
-      output = block_stored _ _ _ _ c.if-out-ne-STREAM_BLOCK_LENGTH.false c.start_state.ensures c.block_words.ensures c.spread.ensures ∙ sym (after_done _ _ e);
+      output = block_made _ _ _ c.start_state.ensures c.block_words.ensures c.spread.ensures ∙ sym (after_done _ _ e);
     }

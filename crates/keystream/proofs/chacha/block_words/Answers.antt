@@ -1,16 +1,17 @@
-use Rattle.std.proofs.Common.{[], refl, arith, length-set}
-use Rattle.lists.proofs.TabLaws.{tab_none, tab_more, tab_all}
+use Rattle.std.proofs.Common.{refl, arith}
+use Rattle.lists.proofs.PutLaws.{put_none}
+use Rattle.lists.proofs.ChainLaws.{item_more, item_as_before, items_all}
 use Rattle.keystream.specs.ChaCha.{block_words}
 use Rattle.keystream.proofs.chacha.block_words.Goals as goal
 
 pub loop-i-init : goal.loop-i-init
-loop-i-init c = (omega arith, refl, tab_none _ [])
+loop-i-init c = put_none _ _ _
 
 pub loop-i-preserved : goal.loop-i-preserved
-loop-i-preserved c = let l = c.loop-i in (omega arith, simp length-set l.invariant.1, tab_more _ l.i l.o (omega arith) l.invariant.2 c.wrapping_add_u32.ensures.value)
+loop-i-preserved c =
+    let e = item_as_before _ _ _ c.loop-i.invariant in
+    item_more _ _ _ c.loop-i.invariant (rw e refl)
 
 pub returns : goal.returns
 unfolding block_words
-returns c =
-    let l = c.loop-i in
-    rw (← c.ten_rounds-t.ensures) (tab_all _ _ l.i l.o (omega arith) l.invariant.1 l.invariant.2)
+returns c = rw (← c.ten_rounds-words.ensures) (items_all _ _ 16 _ (omega arith) c.loop-i-test.array_long c.loop-i.invariant)

@@ -1,6 +1,6 @@
-use Rattle.std.proofs.Common.{◌≡◌, ◌≤◌}
+use Rattle.std.proofs.Common.{◌≡◌}
 use Rattle.keystream.specs.ChaCha.{quarters_to}
 use Rattle.keystream.proofs.chacha.double_round.Given as goal
 
-abbrev pub invariant-loop-i : goal.invariant-loop-i
-invariant-loop-i l = (l.i ≤ 8) × (l.t ≡ quarters_to l.i l.initial.t)
+abbrev pub invariant-loop-q : goal.invariant-loop-q
+invariant-loop-q l = l.t ≡ quarters_to l.q-index l.initial.t

@@ -12,7 +12,7 @@ unfolding quadruples
 double_round-u-requires c = refl
 
 pub loop-preserved : goal.loop-preserved
-loop-preserved c = (omega arith, round_more _ _ c.loop.invariant.1 c.double_round-u.ensures)
+loop-preserved c = round_more _ _ c.loop.invariant c.double_round-u.ensures
 
 pub returns : goal.returns
 returns c = let e : c.loop.counter ≡ 10 = omega arith in cc

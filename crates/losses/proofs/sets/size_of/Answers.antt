@@ -1,31 +1,18 @@
-use mathlib.Core.Path.{sym, ap, ◌∙◌}
-use native.Mathlib.Omega.{arith}
-use Rattle.lists.specs.Lists.{bit}
-use Rattle.lists.proofs.CountLaws.{how_many_zero, how_many_more, how_many_most}
+use mathlib.Core.Path.{refl, ◌∙◌}
+use borrow.Author.Rules.{rules}
+use borrow.Author.Tests.{tests}
+use Rattle.std.proofs.lemmas.Iterator.{YieldsList-from_range}
+use Rattle.std.proofs.lemmas.Iterator.Consumers.{YieldsList-from_filter, count_from_yields_List}
+use Rattle.lists.proofs.RangeLaws.{count_from_zero}
 use Rattle.archive.specs.Losses.{in_set}
 use Rattle.losses.proofs.SetLaws.{nodes_counted}
 use Rattle.losses.proofs.sets.size_of.Goals as goal
-use Rattle.losses.proofs.sets.size_of.Goals.{then-in_set, else-in_set}
-
-pub loop-node-init : goal.loop-node-init
-loop-node-init c = (omega arith, sym (how_many_zero _))
-
-pub overflow_add-count : goal.overflow_add-count
-overflow_add-count c =
-    let l = c.loop-node in
-    omega (arith, l.invariant.1, how_many_most l.node (in_set c.args.set))
-
-pub loop-node-preserved : goal.loop-node-preserved
-loop-node-preserved c =
-    let l = c.loop-node in
-    let is = c.in_set.ensures in
-    let set = c.args.set in (
-      omega arith,
-      elim c.if-in_set.branch [
-        | then-in_set w ↦ omega (arith, w.count-is, l.invariant.1, how_many_more l.node (in_set set), ap bit (sym is ∙ w.if-in_set.true))
-        | else-in_set w ↦ omega (arith, w.count-is, l.invariant.1, how_many_more l.node (in_set set), ap bit (sym is ∙ w.if-in_set.false))
-      ],
-    )
 
 pub returns : goal.returns
-returns c = nodes_counted _ _ c.loop-node.invariant.1 (omega arith)
+returns c =
+    let test = in_set c.args.set in
+    nodes_counted c.args.set 8
+    (count_from_yields_List c.filter.result _ c.count.ensures.ran
+    (YieldsList-from_filter _ test (YieldsList-from_range 0 8 8 c.filter.ensures.source refl) c.filter.ensures.closure (λ x b q k. search (rules, tests)))
+    ∙ count_from_zero 8 test)
+    refl

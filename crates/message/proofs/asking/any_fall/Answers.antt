@@ -1,20 +1,12 @@
-use mathlib.Core.Path.{refl, sym}
-use native.Mathlib.Omega.{arith}
+use mathlib.Core.Path.{◌∙◌}
+use lib.Dec.{leb}
+use Rattle.std.proofs.Common.{rules, tests}
+use Rattle.std.proofs.lemmas.Iterator.Search.{any_from_yields_List}
 use Rattle.lists.specs.Lists.{at}
-use Rattle.message.proofs.ChallengeRuleLaws.{fall_found, rising_more, rising_all}
+use Rattle.lists.proofs.ChainLaws.{YieldsList-from_windows, any_of_pairs}
 use Rattle.message.proofs.asking.any_fall.Goals as goal
 
-pub loop-j-init : goal.loop-j-init
-loop-j-init c = (omega arith, refl, λ i l. absurd (omega arith))
-
-pub returns-then-places-j : goal.returns-then-places-j
-returns-then-places-j c =
-    sym (fall_found (at c.args.places.now) _ _ (omega arith) (omega arith) refl refl c.if-places-j.true)
-
-pub loop-j-preserved : goal.loop-j-preserved
-loop-j-preserved c =
-    let i = c.loop-j.invariant in
-    (omega arith, i.1, rising_more _ _ i.2 refl refl c.if-places-j.false)
-
 pub returns : goal.returns
-returns c = sym (rising_all (at c.args.places.now) _ _ (omega arith) c.loop-j.invariant.2)
+returns c =
+    any_from_yields_List (λ w. leb (at w 1) (at w 0)) _ _ _ c.any.ensures.ran (YieldsList-from_windows c.args.places.now (cc) (cc)) (λ x b q k. search (rules, tests))
+    ∙ any_of_pairs (λ x y. leb y x) c.args.places.now

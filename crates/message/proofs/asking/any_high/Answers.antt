@@ -1,20 +1,12 @@
-use borrow.Author.Count.{below_more}
-use borrow.Author.Tests.{lt-ltb, le-ltb}
-use mathlib.Core.Path.{refl, sym}
-use native.Mathlib.Omega.{arith}
-use Rattle.lists.proofs.AnyLaws.{any_some, any_none}
+use mathlib.Core.Path.{◌∙◌}
+use lib.Dec.{ltb}
+use Rattle.std.proofs.Common.{rules, tests}
+use Rattle.std.proofs.lemmas.Iterator.{YieldsList-from_slice}
+use Rattle.std.proofs.lemmas.Iterator.Search.{any_from_yields_List}
+use Rattle.lists.proofs.ChainLaws.{any_of_list}
 use Rattle.message.proofs.asking.any_high.Goals as goal
 
-pub loop-j-init : goal.loop-j-init
-loop-j-init c = (refl, λ i l. absurd (omega arith))
-
-pub returns-then-places-j-gt7 : goal.returns-then-places-j-gt7
-returns-then-places-j-gt7 c = sym (any_some _ _ _ (omega arith) (lt-ltb _ _ c.if-places-j-gt7.true))
-
-pub loop-j-preserved : goal.loop-j-preserved
-loop-j-preserved c =
-    let i = c.loop-j.invariant in
-    (i.0, below_more _ _ i.1 (le-ltb _ _ c.if-places-j-gt7.false))
-
 pub returns : goal.returns
-returns c = sym (any_none _ _ (λ i l. c.loop-j.invariant.1 i (omega arith)))
+returns c =
+    any_from_yields_List (ltb 7) _ _ _ c.any.ensures.ran (YieldsList-from_slice c.args.places.now cc) (λ x b q k. search (rules, tests))
+    ∙ any_of_list (ltb 7) c.args.places.now

@@ -4,22 +4,14 @@ use Rattle.message.specs.Challenge.{challenge_out}
 use Rattle.message.proofs.asking.challenge.Goals as goal
 
 pub write_message-requires : goal.write_message-requires
-write_message-requires c = challenge_lengths _ _ c.challenge_check-answer.ensures c.in-Done.is
+write_message-requires c = challenge_lengths _ _ c.challenge_check.ensures c.in_ok-challenge_check.was
 
-pub returns-in-Done : goal.returns-in-Done
+pub returns-clause-output : goal.returns-clause-output
 unfolding challenge_out
-returns-in-Done c =
-    let a = c.challenge_check-answer.ensures in
-    record {
-      answer = a;
-      output = written _ a c.in-Done.is c.write_message.ensures;
-    }
+returns-clause-output c =
+    let a = c.challenge_check.ensures in written _ a c.in_ok-challenge_check.was c.write_message.ensures
 
-pub returns-in_default : goal.returns-in_default
+pub returns-in_err-challenge_check-clause-output : goal.returns-in_err-challenge_check-clause-output
 unfolding challenge_out
-returns-in_default c =
-    let a = c.challenge_check-answer.ensures in
-    record {
-      answer = a;
-      output = kept _ a c.in_default.is;
-    }
+returns-in_err-challenge_check-clause-output c =
+    let a = c.challenge_check.ensures in kept _ a c.in_err-challenge_check.was

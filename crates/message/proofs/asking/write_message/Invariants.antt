@@ -1,5 +1,3 @@
-use Prim.Native.Nat.{◌≤◌}
-use mathlib.Core.Path.{◌≡◌}
 use lib.ListN.{length}
 use Rattle.message.specs.Challenge.{challenge_length}
 use Rattle.message.proofs.ChallengeWriteLaws.{ItemsIn}
@@ -8,4 +6,4 @@ use Rattle.message.proofs.asking.write_message.Given as goal
 -- The loop has written the fields before item j. Assumes nothing.
 abbrev pub invariant-loop-j : goal.invariant-loop-j
 invariant-loop-j l =
-    (l.j ≤ l.j-end) × (l.j-end ≤ 8) × (l.j-end ≡ length l.places) × ItemsIn l.node l.places l.coefficients (challenge_length (length l.places)) l.j l.message
+    ItemsIn l.node l.places l.coefficients (challenge_length (length l.places)) l.j l.message

@@ -1,6 +1,8 @@
-use borrow.Author.Rules.{rules}
-use mathlib.Core.Path.{◌≡◌, refl}
+use Prim.Native.Nat.{◌+◌}
+use mathlib.Core.Path.{◌≡◌, ◌∙◌}
 use native.Mathlib.Omega.{arith}
+use lib.ListN.{length}
+use Rattle.lists.proofs.PartLaws.{length_part}
 use Rattle.sizes.proofs.SizeLaws.{ranged}
 use Rattle.sizes.proofs.PlaceLaws.{count_low}
 use Rattle.vector.proofs.AddedLaws.{mixed_none}
@@ -8,44 +10,41 @@ use Rattle.planning.proofs.RowLaws.{row_fits, row_low, row_added}
 use Rattle.planning.proofs.rows.add_rows.Goals as goal
 
 pub loop-l-init : goal.loop-l-init
-loop-l-init c = (omega arith, refl, mixed_none _ _ _ _ _)
+loop-l-init c = mixed_none _ _ _ _ _
 
 pub overflow_add-first : goal.overflow_add-first
-overflow_add-first c =
-    omega (arith, c.requires.3, count_low _ (ranged _ c.requires.1))
+overflow_add-first c = omega (arith, c.requires.2, count_low _ (ranged _ c.requires.0))
 
 pub record_start-requires : goal.record_start-requires
 record_start-requires c =
-    (c.requires.1, omega (arith, c.requires.3, count_low _ (ranged _ c.requires.1)))
-
-pub overflow_add-row : goal.overflow_add-row
-overflow_add-row c =
-    let R = ranged _ c.requires.1 in
-    omega (arith, row_low c.args.z _ R (omega (arith, c.requires.3, count_low _ R)) c.record_start.ensures)
+    (c.requires.0, omega (arith, c.requires.2, count_low _ (ranged _ c.requires.0)))
 
 pub overflow_add-start : goal.overflow_add-start
-overflow_add-start c = omega (arith, c.requires.4)
+overflow_add-start c =
+    let R = ranged _ c.requires.0 in
+    omega (arith, row_low c.args.z _ R (omega (arith, c.requires.2, count_low _ R)) c.record_start.ensures)
 
-pub bounds-gammas-start : goal.bounds-gammas-start
-bounds-gammas-start c = omega (arith, c.requires.4)
+pub overflow_add-start-in-loop-l : goal.overflow_add-start-in-loop-l
+overflow_add-start-in-loop-l c =
+    let R = ranged _ c.requires.0 in
+    omega (arith, R.m_high, row_low c.args.z _ R (omega (arith, c.requires.2, count_low _ R)) c.record_start.ensures)
+
+pub slice_bounds-add_multiple-end : goal.slice_bounds-add_multiple-end
+slice_bounds-add_multiple-end c = row_fits c.args.z _ (omega (arith, c.requires.2)) c.record_start.ensures c.requires.1
 
 pub add_multiple-requires : goal.add_multiple-requires
-add_multiple-requires c = (
-  c.requires.0,
-  row_fits c.args.z _ (omega (arith, c.requires.3)) c.record_start.ensures c.requires.2,
-  omega (arith, c.loop-l.invariant.1, c.requires.5),
-)
+add_multiple-requires c =
+    let start = c.record_start.result + c.args.z.n in
+    length_part start (start + c.args.z.m) c.args.archive.now (row_fits c.args.z _ (omega (arith, c.requires.2)) c.record_start.ensures c.requires.1)
+    ∙ omega (arith, c.requires.3)
 
 pub loop-l-preserved : goal.loop-l-preserved
 loop-l-preserved c =
-    let a = c.args in (
-      omega arith,
-      search rules,
-      row_added a.z a.archive.now a.gammas.now a.out.now a.first a.start a.from c.loop-l.l c.requires.5
-          c.record_start.ensures c.loop-l.invariant.2 c.add_multiple.ensures,
-    )
+    let a = c.args in
+    row_added a.z a.archive.now a.gammas.now a.out.now a.first c.loop-l.l c.requires.3
+    c.record_start.ensures c.loop-l.invariant c.add_multiple.ensures
 
 pub returns : goal.returns
 returns c =
-    let all : c.loop-l.l ≡ c.args.z.places = omega arith in
-    rw all at c.loop-l.invariant.2
+    let all : c.loop-l.l ≡ length c.args.gammas.now = omega arith in
+    rw all at c.loop-l.invariant

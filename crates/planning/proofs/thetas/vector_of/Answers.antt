@@ -1,38 +1,27 @@
-use Prim.Native.Nat.{ℕ}
-use mathlib.Core.Path.{◌≡◌, sym, ap, ◌∙◌}
-use mathlib.Core.List.{List}
+use mathlib.Core.Path.{◌≡◌, sym, ◌∙◌}
+use mathlib.Core.Logic.{◌≢◌}
 use native.Mathlib.Omega.{arith}
-use lib.ListN.{get_or-replicate}
-use Rattle.lists.specs.Lists.{at}
+use lib.ListN.{length, take, get_or-replicate}
+use borrow.Author.Rules.{rules as own_rules}
+use Rattle.std.proofs.Common.{rules, tests}
 use Rattle.linear.specs.PrivateElimination.{cells}
-use Rattle.planning.specs.PrivatePlan.{row_for}
-use Rattle.planning.proofs.SoughtLaws.{row_for_same, row_for_other}
+use Rattle.planning.proofs.SoughtLaws.{last_from_rposition, row_found, row_not_found}
 use Rattle.planning.proofs.thetas.vector_of.Goals as goal
-use Rattle.planning.proofs.thetas.vector_of.Goals.{then-widen-number, else-widen-number}
 
-pub loop-i-init : goal.loop-i-init
-unfolding row_for
-loop-i-init c = (omega arith, λ e l. get_or-replicate 16 e 0 0 l)
-
-pub loop-i-preserved : goal.loop-i-preserved
-loop-i-preserved c =
-    let l = c.loop-i in
+pub returns-in-Some : goal.returns-in-Some
+returns-in-Some c =
     let a = c.args in
-    let is = c.widen.ensures.0 in (
-      omega arith,
-      λ e h.
-          elim c.if-widen-number.branch [
-            | then-widen-number w ↦
-                ap (λ (x : List ℕ). at x e) w.out-is
-                ∙ sym (row_for_same l.i (at a.numbers) (cells a.combinations) a.number e (sym is ∙ w.if-widen-number.true))
-            | else-widen-number w ↦
-                ap (λ (x : List ℕ). at x e) w.out-is ∙ l.invariant.1 e h
-                ∙ sym (row_for_other l.i (at a.numbers) (cells a.combinations) a.number e (λ q. w.if-widen-number.false (is ∙ q)))
-          ],
-    )
+    let w =
+    last_from_rposition _ _ _ (λ x. x ≡ a.number) (λ x. x ≢ a.number) c.rposition.ensures.ran (take a.count a.numbers) (cc)
+    (λ x q called. search (rules, tests)) (λ x q called. search (rules, tests)) in
+    let long : length a.numbers ≡ 16 = search own_rules in
+    λ e l. sym (row_found a.count a.numbers (cells a.combinations) a.number e (omega (arith, long, c.requires)) c.in-Some.i (rw c.in-Some.is at w))
 
-pub returns : goal.returns
-returns c =
-    let l = c.loop-i in
-    let all : l.i ≡ c.args.count = omega arith in
-    λ e h. rw (← all) (l.invariant.1 e h)
+pub returns-in-None : goal.returns-in-None
+returns-in-None c =
+    let a = c.args in
+    let w =
+    last_from_rposition _ _ _ (λ x. x ≡ a.number) (λ x. x ≢ a.number) c.rposition.ensures.ran (take a.count a.numbers) (cc)
+    (λ x q called. search (rules, tests)) (λ x q called. search (rules, tests)) in
+    let long : length a.numbers ≡ 16 = search own_rules in
+    λ e l. get_or-replicate 16 e 0 0 l ∙ sym (row_not_found a.count a.numbers (cells a.combinations) a.number e (omega (arith, long, c.requires)) (rw c.in-None.is at w))

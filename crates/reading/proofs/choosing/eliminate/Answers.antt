@@ -1,21 +1,12 @@
-use mathlib.Core.Path.{sym, subst}
-use Prim.Native.Nat.{ℕ, ◌<◌, ◌≤◌}
 use native.Mathlib.Omega.{arith}
-use Rattle.lists.specs.Lists.{at}
 use Rattle.sizes.proofs.SizeLaws.{ranged}
-use Rattle.choice.specs.declared.Rows.{Rows}
-use Rattle.choice.specs.PrivateChoice.{Standing}
-use Rattle.reading.proofs.PlaceRowLaws.{rows_standing}
 use Rattle.reading.proofs.ReadingLaws.{reduced_in}
 use Rattle.reading.proofs.choosing.eliminate.Goals as goal
 
 pub rows_of-rows-requires : goal.rows_of-rows-requires
 rows_of-rows-requires c =
-    let chosen = c.args.chosen in
-    subst (λ (x : Rows).
-    Standing x c.args.archive.now × (chosen.count ≤ x.m) × ((t : ℕ) → t < chosen.count → at chosen.numbers t < x.count))
-    (sym c.rows_in.ensures)
-    (rows_standing c.args.z c.args.archive.now (ranged _ c.requires.0) c.requires.1, c.requires.2, c.requires.3)
+    let is = c.rows_in.ensures in
+    (omega (arith, is.m, c.requires.2), λ t h. omega (arith, is.count, c.requires.3 t h))
 
 pub reduce-requires : goal.reduce-requires
 reduce-requires c =
