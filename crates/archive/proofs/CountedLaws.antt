@@ -5,7 +5,7 @@ use mathlib.Core.Bool.{Bool, false}
 use mathlib.Core.List.{List}
 use native.Mathlib.Omega.{arith}
 use Rattle.answer.proofs.RefusalLaws.{accepted}
-use Rattle.answer.specs.Answer.{Outcome, Counted, done, Ok, Err}
+use Rattle.answer.specs.Answer.{Outcome, Counted, Ok, Err}
 use Rattle.answer.specs.Counted.{counted, counted_value}
 use Rattle.sizes.specs.Lengths.{place_count}
 use Rattle.archive.specs.Layout.{sizes_of, mark_at, bad_archive}

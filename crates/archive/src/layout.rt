@@ -1,7 +1,7 @@
 // Header and fill marks: sizes, offsets, what is read of an archive and what makes one bad.
 ghost use Rattle.std.specs.Prelude.{◌≡◌, false, not, ◌+◌, ◌*◌, ◌<◌, ◌≤◌, length, eqb, leb};
-ghost use Rattle.lists.specs.Lists.{pick, any_below};
-ghost use Rattle.sizes.specs.Lengths.{marks_start, header_length, mark_count};
+ghost use Rattle.lists.specs.Lists.{Bytes, pick, any_below};
+ghost use Rattle.sizes.specs.Lengths.{marks_start, header_length, mark_count, archive_length};
 ghost use Rattle.archive.specs.Layout.{layout_outside, tag_field, sizes_of, id_of, mark_at, filled_in, bad_archive};
 ghost use Rattle.bits.specs.Fields.{field_at};
 ghost use Rattle.sizes.specs.Sizes.{sizes_outside};
@@ -43,6 +43,17 @@ pub fn id_in(s: &[u8]) -> [u8; 8]
     id
 }
 
+// The bytes of an archive and its sizes, which are in their ranges. That the elements are bytes is true of every lent slice; a proof knows
+// it where it sees the slice.
+#[derive(Clone, Copy)]
+pub struct Records<'a> {
+    pub z: Sizes,
+    pub bytes: &'a [u8],
+    pub ghost ranges: { sizes_outside z ≡ false },
+    pub ghost long: { length bytes.now ≡ archive_length z },
+    pub ghost all_bytes: { Bytes bytes.now },
+}
+
 // Whether place number k is marked as filled.
 pub fn marked(s: &[u8], k: usize) -> bool
     requires { (k < mark_count) × (header_length ≤ length s.now) }
@@ -51,13 +62,15 @@ pub fn marked(s: &[u8], k: usize) -> bool
     bits::read_field(s, sizes::FIRST_MARK + k, 1) == 1
 }
 
-// Whether a place of a node is filled; where `filled` is false, whether one is empty.
-pub fn any_place(archive: &[u8], z: Sizes, node: usize, filled: bool) -> bool
-    requires { (sizes_outside z ≡ false) × (node < z.nodes) × (header_length ≤ length archive.now) }
-    ensures { let archive = archive.entry.now in
+// Whether a place of a node is filled; where `filled`, the mark that is looked for, is false, whether one is empty.
+pub fn any_place(records: Records<'_>, node: usize, filled: bool) -> bool
+    requires { node < records.z.nodes }
+    ensures { let z = records.entry.z in
+        let archive = records.entry.bytes.now in
         result ≡ any_below z.places (λ k. pick filled (filled_in z archive node k) (not (filled_in z archive node k))) }
 {
-    (0..z.places).any(|k| marked(archive, node * z.places + k) == filled)
+    let places = records.z.places;
+    (0..places).any(|k| marked(records.bytes, node * places + k) == filled)
 }
 
 // Whether a mark is set that belongs to none of the first `count` places.

@@ -9,7 +9,7 @@ mod opening;
 
 ghost use Rattle.archive.specs.Repaired.{RepairedRows};
 
-pub use layout::{any_place, bad_archive, id_in, marked, sizes_in};
+pub use layout::{Records, any_place, bad_archive, id_in, marked, sizes_in};
 pub use listing::inventory;
 pub use losing::lose;
 pub use marks::set_marks;

@@ -31,7 +31,7 @@ fn mark_byte(s: &[u8], k: usize, count: usize, v: bool, j: usize) -> u8
     )
 }
 
-// Makes the marks of the `count` places from number k on v.
+// Makes the marks of the `count` places from number k on v. By number: a mark is a bit, and no slice lends a few of them.
 pub fn set_marks(s: &mut [u8], k: usize, count: usize, v: bool)
     requires { (k + count ≤ mark_count) × (header_length ≤ length s.old) }
     ensures { s.new ≡ with_marks (over k count (λ i. v) (mark_at s.old)) s.old }

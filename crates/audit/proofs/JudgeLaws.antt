@@ -106,12 +106,12 @@ fails_same z v v' u u' response s f g =
     (order e z.n)))
 
 -- over a buffer that was filled with the key vector of the tag
-pub fails_filled : (z : Sizes) (key id : List ℕ) (row : ℕ → ℕ) (response before : List ℕ) (s count : ℕ) {vector : List ℕ} {t : Bool}
-    → z.n + z.m ≤ 64 * count → 64 * count ≤ length before → vector ≡ put (64 * count) 0 (key_vector key id s) before
+pub fails_filled : (z : Sizes) (key id : List ℕ) (row : ℕ → ℕ) (response before : List ℕ) (s size : ℕ) {vector : List ℕ} {t : Bool}
+    → z.n + z.m ≤ size → size ≤ length before → vector ≡ put size 0 (key_vector key id s) before
     → t ≡ fails z (λ s. at vector) row response s → t ≡ fails z (key_vector key id) row response s
-fails_filled z key id row response before s count {vector} enough fits filled w =
+fails_filled z key id row response before s size {vector} enough fits filled w =
     w ∙ fails_same z (λ s. at vector) (key_vector key id) row row response s
-    (λ i l. ap (λ (x : List ℕ). at x i) filled ∙ put_front (64 * count) (key_vector key id s) before i (omega arith) fits) (λ i l. refl)
+    (λ i l. ap (λ (x : List ℕ). at x i) filled ∙ put_front size (key_vector key id s) before i (omega arith) fits) (λ i l. refl)
 
 -- ---- the combined row
 

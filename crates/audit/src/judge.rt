@@ -78,55 +78,58 @@ fn named_row(tables: &Tables, z: Sizes, rows: &[u8], challenge: &ChallengeMessag
     Row { bytes }
 }
 
-// Whether the data elements and the row, times the elements of a vector, do not give tag s plus mask sum s.
-fn fails_at(tables: &Tables, z: Sizes, row: Row, response: &[u8], vector: &[u8], s: usize) -> bool
-    requires { (sizes_outside z ≡ false)
-        × (s < z.tags)
-        × (length response.now ≡ response_length z.n z.tags)
-        × (length vector.now ≡ vector_most) }
-    ensures { result ≡ fails z (λ s. at vector.now) (at row.bytes) response.now s }
-{
-    let n = z.n;
-    let sums_end = n + z.tags;
-    let masked = vector::product_of(tables, &response[1..n - 1], &vector[..n - 2]);
-    let clear = vector::product_of(
-        tables,
-        &response[sums_end + sizes::CLEAR_PAST_SUMS..sums_end + sizes::TAG_PAST_SUMS],
-        &vector[n - 2..n],
-    );
-    let tail = linear::dot(tables, row, &vector[n..n + z.m]);
-    masked ^ clear ^ tail
-        != response[sums_end + sizes::TAG_PAST_SUMS + s] ^ response[n + sizes::SUM_PAST_N + s]
-}
-
-// Whether that is so for the key vector of tag s.
-fn tag_fails(
-    tables: &Tables,
+// A response as long as the sizes make it, and the row that its challenge names.
+#[derive(Clone, Copy)]
+struct Response<'a> {
     z: Sizes,
     row: Row,
-    response: &[u8],
-    tag_key: Key,
-    id: Id,
-    s: usize,
-) -> bool
-    requires { (sizes_outside z ≡ false)
-        × (s < z.tags)
-        × (length response.now ≡ response_length z.n z.tags) }
-    ensures { result ≡ fails z (key_vector tag_key id) (at row.bytes) response.now s }
-{
-    let blocks = (z.n + z.m) / sizes::STREAM_BLOCK_LENGTH + 1;
-    let mut vector = [0u8; sizes::VECTOR_MOST];
-    tag::key_vector_into(tag_key, id, s, &mut vector, blocks);
-    fails_at(tables, z, row, response, &vector, s)
+    bytes: &'a [u8],
+    ghost ranges: { sizes_outside z ≡ false },
+    ghost long: { length bytes.now ≡ response_length z.n z.tags },
 }
 
-// Whether that is so for one of the tags.
-fn any_fails(tables: &Tables, z: Sizes, row: Row, response: &[u8], tag_key: Key, id: Id) -> bool
-    requires { (sizes_outside z ≡ false)
-        × (length response.now ≡ response_length z.n z.tags) }
-    ensures { result ≡ any_below z.tags (fails z (key_vector tag_key id) (at row.bytes) response.now) }
-{
-    (0..z.tags).any(|s| tag_fails(tables, z, row, response, tag_key, id, s))
+impl<'a> Response<'a> {
+    // Whether the data elements and the row, times the elements of a vector, do not give tag s plus mask sum s.
+    fn fails_at(&self, tables: &Tables, vector: &[u8], s: usize) -> bool
+        requires { (s < self.now.z.tags) × (length vector.now ≡ vector_most) }
+        ensures { let response = self.now in
+            result ≡ fails response.z (λ s. at vector.now) (at response.row.bytes) response.bytes.now s }
+    {
+        let n = self.z.n;
+        let sums_end = n + self.z.tags;
+        let bytes = self.bytes;
+        let masked = vector::product_of(tables, &bytes[1..n - 1], &vector[..n - 2]);
+        let clear = vector::product_of(
+            tables,
+            &bytes[sums_end + sizes::CLEAR_PAST_SUMS..sums_end + sizes::TAG_PAST_SUMS],
+            &vector[n - 2..n],
+        );
+        let tail = linear::dot(tables, self.row, &vector[n..n + self.z.m]);
+        masked ^ clear ^ tail
+            != bytes[sums_end + sizes::TAG_PAST_SUMS + s] ^ bytes[n + sizes::SUM_PAST_N + s]
+    }
+
+    // Whether that is so for the key vector of tag s.
+    fn tag_fails(&self, tables: &Tables, tag_key: Key, id: Id, s: usize) -> bool
+        requires { s < self.now.z.tags }
+        ensures { let response = self.now in
+            result ≡ fails response.z (key_vector tag_key id) (at response.row.bytes) response.bytes.now s }
+    {
+        let blocks = (self.z.n + self.z.m) / sizes::STREAM_BLOCK_LENGTH + 1;
+        let mut vector = [0u8; sizes::VECTOR_MOST];
+        let size = blocks * sizes::STREAM_BLOCK_LENGTH;
+        tag::key_vector_into(tag_key, id, s, &mut vector[..size]);
+        self.fails_at(tables, &vector, s)
+    }
+
+    // Whether that is so for one of the tags.
+    fn any_fails(&self, tables: &Tables, tag_key: Key, id: Id) -> bool
+        ensures { let response = self.now in
+            result
+            ≡ any_below response.z.tags (fails response.z (key_vector tag_key id) (at response.row.bytes) response.bytes.now) }
+    {
+        (0..self.z.tags).any(|s| self.tag_fails(tables, tag_key, id, s))
+    }
 }
 
 // The judgement where nothing before 11 is refused.
@@ -155,7 +158,12 @@ fn judged(
     if linear::all_zero(row, z.m) {
         return Err(Refusal::ProvesNothing);
     }
-    if any_fails(&tables, z, row, response, tag_key, id) {
+    let response = Response {
+        z,
+        row,
+        bytes: response,
+    };
+    if response.any_fails(&tables, tag_key, id) {
         Ok(Judgement::Rejected)
     } else {
         Ok(Judgement::Accepted)

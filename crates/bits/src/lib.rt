@@ -5,7 +5,7 @@ ghost use Rattle.std.specs.Prelude.{◌≡◌, ◌+◌, ◌-◌, ◌*◌, ◌/�
 ghost use Rattle.lists.specs.Lists.{bit};
 ghost use Rattle.bits.specs.Fields.{bit_at, field_at, with_field, RoundTrip, Written};
 
-// The byte that holds bit `from` + i: the sum itself may be past the last usize.
+// The byte that holds bit `from` + i. They stay two numbers, here and below, since their sum may be past the last usize.
 fn byte_of(from: usize, i: usize) -> usize
     requires { i < 16 }
     ensures { result ≡ (from + i) / 8 }
@@ -55,7 +55,7 @@ fn set_bit(s: &mut [u8], from: usize, i: usize, v: usize)
     s[j] = replaced(usize::from(s[j]), old, v, weight(from, i));
 }
 
-// The field of `width` bits at bit `from`.
+// The field of `width` bits at bit `from`. A width is a figure of the layout where it is called.
 pub fn read_field(s: &[u8], from: usize, width: usize) -> usize
     requires { (width ≤ 16) × (from + width ≤ 8 * length s.now) }
     ensures { result ≡ field_at s.now from width }
@@ -63,7 +63,7 @@ pub fn read_field(s: &[u8], from: usize, width: usize) -> usize
     (0..width).fold(0, |value, i| value * 2 + bit_at(s, from, i))
 }
 
-// Writes the low `width` bits of value as the field at bit `from`; every other bit keeps its value.
+// Writes the low `width` bits of value as the field at bit `from`; every other bit keeps its value. By index: i is a bit of both.
 pub fn write_field(s: &mut [u8], from: usize, width: usize, value: usize)
     requires { (width ≤ 16) × (from + width ≤ 8 * length s.old) }
     ensures { s.new ≡ with_field s.old from width value }

@@ -15,7 +15,7 @@ pub struct Buffer<const N: usize> {
 pub type Lent = Buffer<64>;
 
 impl<const N: usize> Buffer<N> {
-    // N times b, of which `len` are lent, or all where there are fewer.
+    // N times b, of which `len` are lent, or all N where `len` is above N.
     pub fn filled(b: u8, len: usize) -> Self {
         Buffer {
             bytes: [b; N],
@@ -28,7 +28,7 @@ impl<const N: usize> Buffer<N> {
         Self::filled(0xa5, given.len()).with_start(given)
     }
 
-    // It with the bytes given, as many as there is room for, as its first.
+    // The same, but that the first bytes are those given, as many as there is room for.
     pub fn with_start(mut self, given: &[u8]) -> Self {
         for (byte, b) in self.bytes.iter_mut().zip(given) {
             *byte = *b;
@@ -36,7 +36,7 @@ impl<const N: usize> Buffer<N> {
         self
     }
 
-    // It with byte `at`, where there is one, made b.
+    // The same, but that byte `at`, where there is one, is b.
     pub fn with_byte(mut self, at: usize, b: u8) -> Self {
         if let Some(byte) = self.bytes.get_mut(at) {
             *byte = b;
@@ -44,7 +44,7 @@ impl<const N: usize> Buffer<N> {
         self
     }
 
-    // It with `len` bytes lent, or all where there are fewer.
+    // The same, but that `len` bytes are lent, or all N where `len` is above N.
     pub fn with_len(mut self, len: usize) -> Self {
         self.len = len.min(N);
         self
@@ -55,7 +55,7 @@ impl<const N: usize> Buffer<N> {
     }
 
     pub fn as_mut_slice(&mut self) -> &mut [u8] {
-        // In steps: the check takes no part of an array whose length is a parameter, but of a slice of it.
+        // In steps: the check takes no part to write of an array whose length is a parameter, but of a slice of it.
         let len = self.len;
         let bytes = &mut self.bytes;
         let whole = &mut bytes[..];

@@ -6,9 +6,11 @@ use std::io;
 
 mod archives;
 mod buffers;
+mod calls;
 
 pub use archives::{Archive, LIVED, LIVED_OF_THREE};
 pub use buffers::{Buffer, Lent, first, kept, unchanged};
+pub use calls::{answer_into, answer_on, refused_into, refused_on};
 
 // Of the lives in numbers: the id; the challenge to node 2, places 0 and 1, coefficients 07 and b5; the responses to it, of one tag and
 // of three.

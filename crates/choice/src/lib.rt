@@ -15,7 +15,7 @@ use linear::Row;
 use reducing::{cleared, extended, pivot};
 pub use rows::Rows;
 
-// The rows taken, by number and in order, and how many candidates were consulted for them.
+// The rows taken, by number and in order, and how many candidates were consulted for them. No heap: as many numbers as there can be.
 #[derive(Clone, Copy)]
 pub struct Chosen {
     pub count: usize,

@@ -1,5 +1,5 @@
 // Sizes and Rows: what an archive tells of itself.
-ghost use Rattle.std.specs.Prelude.{◌≡◌, false, ◌+◌, ◌*◌, ◌<◌, ◌≤◌, length};
+ghost use Rattle.std.specs.Prelude.{◌≡◌, false, ◌+◌, ◌*◌, ◌<◌, length};
 ghost use Rattle.lists.specs.Lists.{tab, flat};
 ghost use Rattle.answer.specs.Refusals.{Passed};
 ghost use Rattle.archive.specs.Layout.{layout_of, sizes_of, bad_archive};
@@ -9,6 +9,7 @@ use answer::Refusal;
 use archive::{bad_archive, sizes_in};
 
 // The layout of an archive, n, m, places a node, nodes and tags (the scheme: M places a box, N boxes, L).
+// Into numbers that are lent, as C lends them: the clauses say that a refusal leaves each as it was.
 pub fn sizes(
     archive: &[u8],
     layout: &mut usize,

@@ -7,7 +7,7 @@ use Rattle.lists.specs.Lists.{at, put}
 use Rattle.lists.proofs.AllLaws.{all, all_at}
 use Rattle.lists.proofs.TabLaws.{length_tab, tab_at, elements}
 use Rattle.lists.proofs.PutLaws.{length_put, put_block, put_all}
-use Rattle.lists.proofs.ChainLaws.{put_part}
+use Rattle.lists.proofs.SliceLaws.{put_part}
 use Rattle.keystream.specs.declared.chacha.Four.{Four}
 use Rattle.keystream.specs.ChaCha.{add32, rotl, byte_of, half, quadruples, quarter_by, quarters_to, rounds, block_words, serialised, start, block_of}
 
@@ -68,7 +68,7 @@ word_more w d k {s} {b} {place} {n} h l e p q g =
     let size : length b ≡ 4 = rw g refl in
     let long : length s ≡ 64 = ap length e ∙ length_put (4 * k) 0 (at (serialised w)) d ∙ l in
     let at_end : place ≡ 0 + 4 * k = omega arith in
-    put_block 4 k 0 (at (serialised w)) (byte_of (at w k)) d e at_end (put_part place 4 n (byte_of (at w k)) s b q size (omega arith) (word_bytes (at w k) g))
+    put_block 4 k 0 (at (serialised w)) (byte_of (at w k)) d e at_end (put_part 4 place (byte_of (at w k)) s b q (omega arith) size (word_bytes (at w k) g))
     (λ i r. serialised_at w k i h r)
 
 pub words_stored : (w d : List ℕ) {s : List ℕ} → length d ≡ 64 → s ≡ put (4 * 16) 0 (at (serialised w)) d → s ≡ serialised w

@@ -3,7 +3,7 @@ use Rattle.std.proofs.Common.{◌≡◌, ℕ, ◌+◌, ◌*◌, ◌/◌, ◌%◌
 use borrow.Rule.Slice.PartMut.{put_mid}
 use Rattle.lists.specs.Lists.{at, put}
 use Rattle.lists.proofs.PutLaws.{length_put, put_block, put_same}
-use Rattle.lists.proofs.ChainLaws.{put_part}
+use Rattle.lists.proofs.SliceLaws.{put_part}
 use Rattle.keystream.proofs.ChaChaLaws.{serialised_length}
 use Rattle.keystream.specs.ChaCha.{add32, block_words, serialised, start, block_of}
 use Rattle.keystream.specs.Draws.{byte_at}
@@ -34,7 +34,7 @@ block_more w d j {v} {b} {s} {t} {place} {n} r e h g p m k =
     let size : length t ≡ 64 = rw (k, serialised_length) refl in
     let long : length s ≡ length d = ap length g ∙ length_put (64 * j) 0 (blocks_byte w) d in
     let at_end : place ≡ 0 + 64 * j = omega arith in
-    put_block 64 j 0 (blocks_byte w) (at (serialised b)) d g at_end (put_part place 64 n (at (serialised b)) s t m size (omega arith) (λ i l. ap (λ (x : List ℕ). at x i) k))
+    put_block 64 j 0 (blocks_byte w) (at (serialised b)) d g at_end (put_part 64 place (at (serialised b)) s t m (omega arith) size (λ i l. ap (λ (x : List ℕ). at x i) k))
     (λ i l.
     let q : (64 * j + i) / 64 ≡ j = omega arith in
     let r : (64 * j + i) % 64 ≡ i = omega arith in

@@ -1,8 +1,8 @@
 // The block function of RFC 8439, section 2.3.
-ghost use Rattle.std.specs.Prelude.{◌≡◌, ◌+◌, ◌*◌, ◌<◌, ◌≤◌, length, slice_index};
-ghost use Rattle.lists.specs.Lists.{at, put};
+ghost use Rattle.std.specs.Prelude.{◌≡◌, ◌+◌, ◌*◌, ◌%◌, ◌<◌, ◌≤◌, length, slice_index};
+ghost use Rattle.lists.specs.Lists.{tab};
 ghost use Rattle.keystream.specs.ChaCha.{rotl, quarter_of, quarter_by, quadruples, quarters_to, rounds};
-ghost use Rattle.keystream.specs.ChaCha.{block_words, word_at, start, byte_of, serialised};
+ghost use Rattle.keystream.specs.ChaCha.{block_words, word_at, start, serialised};
 ghost use Rattle.keystream.specs.PrivateStream.{pairs_of};
 ghost use Rattle.keystream.specs.Draws.{byte_at};
 ghost use Rattle.keystream.specs.Block.{block_answer, block_out};
@@ -173,13 +173,13 @@ fn spread(w: [u32; 16], out: &mut [u8])
     }
 }
 
-// The first 64 times `count` bytes of the stream, block by block, at the front of out.
-pub fn fill(key: Key, nonce: Nonce, out: &mut [u8], count: usize)
-    requires { 64 * count ≤ length out.old }
-    ensures { out.new ≡ put (64 * count) 0 (byte_at key nonce) out.old }
+// Fills out, which has whole blocks, with the first bytes of the stream, block by block.
+pub fn fill(key: Key, nonce: Nonce, out: &mut [u8])
+    requires { length out.old % 64 ≡ 0 }
+    ensures { out.new ≡ tab (length out.old) (byte_at key nonce) }
 {
     let mut w = start_state(&key, 0, &nonce);
-    for j in 0..count {
+    for j in 0..out.len() / sizes::STREAM_BLOCK_LENGTH {
         spread(block_words(w), &mut out[64 * j..64 * j + 64]);
         w[12] = std::num::wrapping_add_u32(w[12], 1);
     }

@@ -1,38 +1,11 @@
 // Bad archives: each operation on an archive answers 3 and writes nothing (Gather, Sizes and Rows: the program `shares`).
-use answer::Refusal;
-use cases::{Archive, CHALLENGE, LIVED, LIVED_OF_THREE, Lent, RESPONSE, counting_key};
+use cases::{
+    Archive, CHALLENGE, LIVED, LIVED_OF_THREE, Lent, RESPONSE, answer_into, answer_on, counting_key,
+};
 use std::io;
 
-// The number that a call on an archive answers; the archive keeps its bytes.
-fn on_archive<T: Copy, F: FnOnce(&mut [u8]) -> Result<T, Refusal>>(
-    rt: &impl Print,
-    s: &Archive,
-    call: F,
-) -> io::Result<u8>
-    requires { F.IsAlwaysCallable call }
-{
-    let mut t = *s;
-    let answer = call(t.as_mut_slice());
-    cases::unchanged(rt, s, &t)?;
-    Ok(answer::number(answer))
-}
-
-// The number that a call with an output of `len` bytes answers; the output keeps its bytes.
-fn into_output<T: Copy, F: FnOnce(&mut [u8]) -> Result<T, Refusal>>(
-    rt: &impl Print,
-    len: usize,
-    call: F,
-) -> io::Result<u8>
-    requires { F.IsAlwaysCallable call }
-{
-    let mut lent = Lent::filled(0xa5, len);
-    let answer = call(lent.as_mut_slice());
-    cases::kept(rt, &lent)?;
-    Ok(answer::number(answer))
-}
-
 fn encode(rt: &impl Print, s: &Archive) -> io::Result<u8> {
-    on_archive(rt, s, |archive| {
+    answer_on(rt, s, |archive| {
         coding::encode(
             archive,
             0,
@@ -46,12 +19,12 @@ fn encode(rt: &impl Print, s: &Archive) -> io::Result<u8> {
 }
 
 fn lose(rt: &impl Print, s: &Archive) -> io::Result<u8> {
-    on_archive(rt, s, |archive| archive::lose(archive, 1))
+    answer_on(rt, s, |archive| archive::lose(archive, 1))
 }
 
 fn repair(rt: &impl Print, s: &Archive) -> io::Result<u8> {
     let mut lent = Lent::filled(0xa5, 6);
-    let answer = on_archive(rt, s, |archive| {
+    let answer = answer_on(rt, s, |archive| {
         coding::repair(archive, 0, &[1], 1, &[1, 2], &[3, 4], lent.as_mut_slice())
     })?;
     cases::kept(rt, &lent)?;
@@ -59,15 +32,15 @@ fn repair(rt: &impl Print, s: &Archive) -> io::Result<u8> {
 }
 
 fn inventory(rt: &impl Print, s: &Archive) -> io::Result<u8> {
-    into_output(rt, 6, |list| archive::inventory(s.as_slice(), list))
+    answer_into(rt, 6, |list| archive::inventory(s.as_slice(), list))
 }
 
 fn losses(rt: &impl Print, s: &Archive) -> io::Result<u8> {
-    into_output(rt, 20, |sets| losses::losses(s.as_slice(), 1, sets))
+    answer_into(rt, 20, |sets| losses::losses(s.as_slice(), 1, sets))
 }
 
 fn prove(rt: &impl Print, s: &Archive) -> io::Result<u8> {
-    into_output(rt, 17, |response| {
+    answer_into(rt, 17, |response| {
         proving::prove(
             s.as_slice(),
             &counting_key(100),
@@ -80,7 +53,7 @@ fn prove(rt: &impl Print, s: &Archive) -> io::Result<u8> {
 }
 
 fn read(rt: &impl Print, s: &Archive) -> io::Result<u8> {
-    into_output(rt, 2, |file| reading::read(s.as_slice(), file))
+    answer_into(rt, 2, |file| reading::read(s.as_slice(), file))
 }
 
 // Encode, Lose, Repair, Inventory, Losses, Prove, Read.

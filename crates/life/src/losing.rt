@@ -23,10 +23,9 @@ fn refused(
     len: usize,
 ) -> io::Result<()> {
     let s = Archive::of(&LIVED).with_byte(0, layout);
-    let mut lent = Lent::filled(0xa5, len);
-    let found = losses::losses(s.as_slice(), k, lent.as_mut_slice());
-    cases::answered(rt, label, expected, found)?;
-    cases::kept(rt, &lent)
+    cases::refused_into(rt, label, expected, len, |out| {
+        losses::losses(s.as_slice(), k, out)
+    })
 }
 
 fn life(rt: &impl Print) -> io::Result<()> {
@@ -71,14 +70,7 @@ fn one_filled(rt: &impl Print) -> io::Result<()> {
 // 3 before all else, 1 before 2.
 fn refusals(rt: &impl Print) -> io::Result<()> {
     refused(rt, "Losses, k=4 of 3 nodes", 1, 0x10, 4, 20)?;
-    refused(
-        rt,
-        "Losses, k=2^64-1 and no list",
-        1,
-        0x10,
-        18446744073709551615,
-        0,
-    )?;
+    refused(rt, "Losses, k=2^64-1 and no list", 1, 0x10, usize::MAX, 0)?;
     refused(rt, "Losses, list one short", 2, 0x10, 3, 19)?;
     refused(rt, "Losses, list one long", 2, 0x10, 1, 21)?;
     refused(rt, "Losses, no list", 2, 0x10, 0, 0)?;

@@ -41,17 +41,9 @@ fn refused(
     rows: &[u8],
     count: usize,
 ) -> io::Result<()> {
-    let mut thetas = Lent::filled(0xa5, count);
-    let answer = planning::plan(
-        s.as_slice(),
-        helpers,
-        q,
-        gammas,
-        rows,
-        thetas.as_mut_slice(),
-    );
-    cases::answered(rt, label, expected, answer)?;
-    cases::kept(rt, &thetas)
+    cases::refused_into(rt, label, expected, count, |out| {
+        planning::plan(s.as_slice(), helpers, q, gammas, rows, out)
+    })
 }
 
 // Repair of node 0 by a plan, with one tag: half as many blocks of six bytes as thetas. The rows that it then has.
@@ -79,12 +71,11 @@ fn repaired(
     cases::bytes(rt, "Its rows", rows, &got)
 }
 
-fn life(rt: &impl Print) -> io::Result<()> {
-    let s = Archive::of(&LIVED);
+fn from_filled(rt: &impl Print, s: &Archive) -> io::Result<()> {
     let thetas = planned(
         rt,
         "Plan from node 2",
-        &s,
+        s,
         &[2],
         2,
         &[1, 0, 0, 1],
@@ -99,7 +90,12 @@ fn life(rt: &impl Print) -> io::Result<()> {
         &thetas,
         &mut [0; 12],
         &[0x01, 0x00, 0x02, 0x03],
-    )?;
+    )
+}
+
+fn life(rt: &impl Print) -> io::Result<()> {
+    let s = Archive::of(&LIVED);
+    from_filled(rt, &s)?;
     planned(
         rt,
         "Plan from node 1, rows within its own",
@@ -218,11 +214,15 @@ fn one_place(rt: &impl Print) -> io::Result<()> {
         &[0x02, 0x03],
         &[0x8d, 0x00],
     )?;
+    row_beside(rt, &s)
+}
+
+fn row_beside(rt: &impl Print, s: &Archive) -> io::Result<()> {
     refused(
         rt,
         "Plan, a row beside theirs",
         12,
-        &s,
+        s,
         &[0, 1],
         1,
         &[1, 1],
@@ -263,7 +263,7 @@ fn sizes(rt: &impl Print) -> io::Result<()> {
     refused_by(rt, "Plan, 6 helpers", 1, 6, 1, 1, 12, 4, 12)?;
     refused_by(rt, "Plan, Q=0", 1, 1, 1, 0, 0, 4, 0)?;
     refused_by(rt, "Plan, Q=9", 1, 1, 1, 9, 18, 4, 18)?;
-    refused_by(rt, "Plan, Q=2^64-1", 1, 1, 3, 18446744073709551615, 0, 0, 0)?;
+    refused_by(rt, "Plan, Q=2^64-1", 1, 1, 3, usize::MAX, 0, 0, 0)?;
     refused_by(rt, "Plan, gammas one short", 2, 1, 1, 1, 1, 4, 2)?;
     refused_by(rt, "Plan, gammas one long", 2, 1, 1, 1, 3, 4, 2)?;
     refused_by(rt, "Plan, rows one short", 2, 1, 1, 1, 2, 3, 2)?;

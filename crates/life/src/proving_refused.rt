@@ -1,5 +1,5 @@
 // Prove with any lengths and messages, on the archive of the first life in numbers; with any lengths on that of the second.
-use cases::{CHALLENGE, LIVED, LIVED_OF_THREE, Lent, first};
+use cases::{CHALLENGE, LIVED, LIVED_OF_THREE, first};
 use std::io;
 
 // A refused Prove with buffers of these lengths, each of at most 64.
@@ -15,17 +15,16 @@ fn prove_on(
     response: usize,
 ) -> io::Result<()> {
     let ones = [1u8; 64];
-    let mut lent = Lent::filled(0xa5, response);
-    let answer = proving::prove(
-        archive,
-        first(&ones, mask_key),
-        first(&ones, elements),
-        first(&ones, seed),
-        message,
-        lent.as_mut_slice(),
-    );
-    cases::answered(rt, label, expected, answer)?;
-    cases::kept(rt, &lent)
+    cases::refused_into(rt, label, expected, response, |out| {
+        proving::prove(
+            archive,
+            first(&ones, mask_key),
+            first(&ones, elements),
+            first(&ones, seed),
+            message,
+            out,
+        )
+    })
 }
 
 fn prove(

@@ -1,5 +1,5 @@
 // Inventory and Read with any lengths, Inventory of other marks, and Read of damaged records.
-use cases::{Archive, LIVED, Lent};
+use cases::{Archive, LIVED};
 use std::io;
 
 fn inventory(
@@ -10,10 +10,9 @@ fn inventory(
     len: usize,
 ) -> io::Result<()> {
     let s = Archive::of(&LIVED).with_byte(0, layout);
-    let mut lent = Lent::filled(0xa5, len);
-    let found = archive::inventory(s.as_slice(), lent.as_mut_slice());
-    cases::answered(rt, label, expected, found)?;
-    cases::kept(rt, &lent)
+    cases::refused_into(rt, label, expected, len, |out| {
+        archive::inventory(s.as_slice(), out)
+    })
 }
 
 // The first life's archive with other fill marks.
@@ -34,10 +33,9 @@ fn read(
     len: usize,
 ) -> io::Result<()> {
     let s = Archive::of(&LIVED).with_byte(at, b);
-    let mut lent = Lent::filled(0xa5, len);
-    let done = reading::read(s.as_slice(), lent.as_mut_slice());
-    cases::answered(rt, label, expected, done)?;
-    cases::kept(rt, &lent)
+    cases::refused_into(rt, label, expected, len, |out| {
+        reading::read(s.as_slice(), out)
+    })
 }
 
 // Record contents are not examined: a file solves for the places taken, whatever they hold.

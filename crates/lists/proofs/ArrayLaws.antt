@@ -1,6 +1,6 @@
 -- An array made of a slice by `try_from`. Assumes nothing.
 use mathlib.Core.Path.{◌∙◌}
-use Rattle.std.specs.Prelude.{ℕ, ◌≡◌, List, length, Result, Ok, Err, MatchResult}
+use Rattle.std.specs.Prelude.{ℕ, ◌≡◌, List, Result, Ok, Err, MatchResult}
 use Rattle.std.specs.Array.{IsWholeChunk}
 
 -- where the slice has the array's length the array has its elements

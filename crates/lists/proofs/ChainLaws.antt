@@ -2,18 +2,16 @@
 use Prim.Native.Nat.{ℕ, zero, suc, ◌+◌, ◌-◌, ◌<◌, ◌≤◌}
 use mathlib.Core.Path.{◌≡◌, refl, sym, ap, ◌∙◌}
 use mathlib.Core.Bool.{Bool, true, false, ◌||◌}
-use mathlib.Core.List.{List, [], ◌∷◌, ◌++◌}
+use mathlib.Core.List.{List, [], ◌∷◌}
 use native.Mathlib.Omega.{arith}
 use native.Mathlib.Nat.{add-zero}
-use lib.ListN.{length, set, take, drop, length-append, length-drop, get_or-append}
-use lib.Seq.{get_or-take, get_or-drop, get_or-append-add, length-take-le}
-use borrow.Rule.Slice.PartMut.{put_mid}
+use lib.ListN.{length, set, take, drop}
 use Rattle.std.specs.List.{list_any, range_with_len}
 use Rattle.std.specs.Slice.Iter.{windows_rest, windows_size, windows_steps}
 use Rattle.std.proofs.lemmas.Iterator.{YieldsList}
 use Rattle.std.proofs.lemmas.Iterator.Splits.{YieldsList-from_shown_while}
 use Rattle.lists.specs.Lists.{pick, at, tab, put, any_below}
-use Rattle.lists.proofs.PutLaws.{is_put, put_more, put_above, put_all, length_put}
+use Rattle.lists.proofs.PutLaws.{put_more, put_above, put_all, length_put}
 use Rattle.lists.proofs.AnyLaws.{any_same}
 
 -- the first index apart from those after it
@@ -89,27 +87,6 @@ any_of_pairs q (x ∷ y ∷ ys) =
     ∙ any_same (length ys) _ _ (λ i l. ap (λ (k : ℕ). q (at (y ∷ ys) i) (at (x ∷ y ∷ ys) k)) {x = suc (i + 1)} {y = suc i + 1} (omega arith)) in
     or_pick (q x y) _ ∙ ap (λ (b : Bool). pick (q x y) true b) rest ∙ sym (any_first (length ys) (λ j. q (at (x ∷ y ∷ ys) j) (at (x ∷ y ∷ ys) (j + 1))))
     ∙ ap (λ (k : ℕ). any_below k (λ j. q (at (x ∷ y ∷ ys) j) (at (x ∷ y ∷ ys) (j + 1)))) (sym n)
-
--- a part is written whole
-pub put_part : (from n k : ℕ) (f : ℕ → ℕ) (d part : List ℕ) → k ≡ n → length part ≡ n → from + n ≤ length d
-    → ((i : ℕ) → i < n → at part i ≡ f i) → put_mid from k d part ≡ put n from f d
-put_part from n k f d part e l b h =
-    let front : length (take from d) ≡ from = length-take-le from d (omega arith) in
-    let rest = drop k (drop from d) in
-    let behind : length rest ≡ length d - from - k = rw (length-drop, length-drop) refl in
-    is_put n from f d (put_mid from k d part)
-    (length-append (take from d) (part ++ rest) ∙ omega (arith, front, behind, length-append part rest))
-    b
-    (λ i r.
-    let q : from + i ≡ length (take from d) + i = omega (arith, front) in
-    ap (at (put_mid from k d part)) q ∙ get_or-append-add (take from d) (part ++ rest) i 0 ∙ get_or-append part rest 0 i (omega arith) ∙ h i r)
-    (λ i r. get_or-append (take from d) (part ++ rest) 0 i (omega (arith, front)) ∙ get_or-take from d i 0 r)
-    (λ i r.
-    let m : i ≡ length (take from d) + (i - from) = omega (arith, front) in
-    let q : i - from ≡ length part + (i - from - n) = omega arith in
-    let u : from + (k + (i - from - n)) ≡ i = omega arith in
-    ap (at (put_mid from k d part)) m ∙ get_or-append-add (take from d) (part ++ rest) (i - from) 0 ∙ ap (at (part ++ rest)) q
-    ∙ get_or-append-add part rest (i - from - n) 0 ∙ get_or-drop k (drop from d) (i - from - n) 0 ∙ get_or-drop from d (k + (i - from - n)) 0 ∙ ap (at d) u)
 
 -- a loop over the elements of a list that are written: one more, all
 pub item_more : (f : ℕ → ℕ) (d : List ℕ) (i : ℕ) {s : List ℕ} {x : ℕ} → s ≡ put i 0 f d → x ≡ f i → set s i x ≡ put (i + 1) 0 f d

@@ -21,7 +21,7 @@ use borrow.Author.Tests.{le-leb, lt-leb}
 use lib.Dec.{leb}
 use lib.ListN.{length, get_or}
 use mathlib.Core.Bool.{Bool, true, false, cond}
-use Rattle.lists.specs.Lists.{pick, at, tab, any_below, bit, how_many}
+use Rattle.lists.specs.Lists.{pick, tab, any_below, bit, how_many}
 use Rattle.lists.proofs.TabLaws.{order, is_tab}
 use Rattle.lists.proofs.CountLaws.{how_many_zero, how_many_more, how_many_same, how_many_split}
 use Rattle.std.proofs.Common.{add_assoc}

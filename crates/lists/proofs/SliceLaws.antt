@@ -69,6 +69,10 @@ pub put_written : (n a : ℕ) (f : ℕ → ℕ) (s : List ℕ) {k : ℕ} {ys : L
 put_written n a f s {ys = ys} is fits e =
     put_part n a f s ys is fits (ap length e ∙ length_tab n f) (λ i h. ap (λ (t : List ℕ). at t i) e ∙ tab_at n f i h)
 
+-- the same of the first n, where the call says it of all that it was lent
+pub front_written : (n : ℕ) (f : ℕ → ℕ) (s : List ℕ) {k : ℕ} {ys : List ℕ} → k ≡ n → n ≤ length s → ys ≡ tab (length (take n s)) f → put_mid 0 k s ys ≡ put n 0 f s
+front_written n f s is fits e = put_written n 0 f s is (omega (arith, fits)) (e ∙ ap (λ (m : ℕ). tab m f) (length-take-le n s fits))
+
 -- `s.fill(v)` on the whole of s; n elements of u copied to the whole of s
 pub tab_filled : (n v : ℕ) {ys : List ℕ} → ys ≡ replicate n v → ys ≡ tab n (λ i. v)
 tab_filled n v {ys} e = is_tab n (λ i. v) ys (rw e (length-replicate n v)) (λ i h. rw e (get_or-replicate n i v 0 h))

@@ -4,15 +4,16 @@
 mod sets;
 
 ghost use Rattle.std.specs.Prelude.{◌≡◌, false, ℕ, ◌/◌, ◌<◌, ◌≤◌, length};
-ghost use Rattle.lists.specs.Lists.{pick, at};
+ghost use Rattle.lists.specs.Lists.{pick};
 ghost use Rattle.sizes.specs.Sizes.{sizes_outside};
-ghost use Rattle.sizes.specs.Lengths.{place_count, archive_length};
+ghost use Rattle.sizes.specs.Lengths.{place_count};
 ghost use Rattle.choice.specs.PrivateChoice.{offered};
-ghost use Rattle.archive.specs.Layout.{sizes_of, mark_at, bad_archive};
+ghost use Rattle.archive.specs.Layout.{mark_at};
 ghost use Rattle.archive.specs.Losses.{in_set, SetOf, Hurts, list_length, Losses, LossesAllows};
 ghost use Rattle.losses.specs.PrivateSets.{Decides};
 
 use answer::Refusal;
+use archive::Records;
 use sets::{SETS, in_set, is_sized, set_at};
 use sizes::Sizes;
 use std::array;
@@ -38,43 +39,38 @@ fn without(filled: [bool; 48], z: Sizes, set: usize) -> [bool; 48]
 
 // Whether the file cannot be read without the nodes of a set. The rank is the number of rows taken; elimination also has, where that is too
 // few, the vector that they leave open.
-fn hurts(archive: &[u8], z: Sizes, filled: [bool; 48], set: usize) -> bool
-    requires { (sizes_outside z ≡ false)
-        × (length archive.now ≡ archive_length z)
-        × ((k : ℕ) → k < place_count z → offered filled k ≡ mark_at archive.now k) }
-    ensures { Decides result (Hurts z archive.now set) }
+fn hurts(records: Records<'_>, filled: [bool; 48], set: usize) -> bool
+    requires { (k : ℕ) → k < place_count records.z → offered filled k ≡ mark_at records.bytes.now k }
+    ensures { let records = records.entry in Decides result (Hurts records.z records.bytes.now set) }
 {
-    let chosen = reading::take(archive, z, without(filled, z, set));
-    reading::eliminate(archive, z, chosen).rank < z.m
+    let chosen = reading::take(records, without(filled, records.z, set));
+    reading::eliminate(records, chosen).rank < records.z.m
 }
 
 // Whether a set is listed: it has k nodes, and hurts.
-fn listed(archive: &[u8], z: Sizes, filled: [bool; 48], k: usize, set: usize) -> bool
-    requires { (sizes_outside z ≡ false)
-        × (length archive.now ≡ archive_length z)
-        × ((k : ℕ) → k < place_count z → offered filled k ≡ mark_at archive.now k) }
-    ensures { Decides result (SetOf z k set × Hurts z archive.now set) }
+fn listed(records: Records<'_>, filled: [bool; 48], k: usize, set: usize) -> bool
+    requires { (k : ℕ) → k < place_count records.z → offered filled k ≡ mark_at records.bytes.now k }
+    ensures { let records = records.entry in
+        Decides result (SetOf records.z k set × Hurts records.z records.bytes.now set) }
 {
-    if is_sized(z.nodes, k, set) {
-        return hurts(archive, z, filled, set);
+    if is_sized(records.z.nodes, k, set) {
+        return hurts(records, filled, set);
     }
     false
 }
 
 // The list, of all sets in a row, and its number.
-fn list_losses(archive: &[u8], k: usize, sets: &mut [u8]) -> usize
-    requires { (bad_archive archive.now ≡ false)
-        × (k ≤ (sizes_of archive.now).nodes)
-        × (length sets.old ≡ list_length) }
-    ensures { let archive = archive.entry.now in Losses (sizes_of archive) archive k result sets.new }
+fn list_losses(records: Records<'_>, k: usize, sets: &mut [u8]) -> usize
+    requires { (k ≤ records.z.nodes) × (length sets.old ≡ list_length) }
+    ensures { let records = records.entry in Losses records.z records.bytes.now k result sets.new }
 {
-    let z = archive::sizes_in(archive);
-    let filled = reading::marks(archive, z);
+    let filled = reading::marks(records);
     sets.fill(0);
     let mut count = 0;
+    // by number: a set is made of it, and the list moves on only at one that hurts
     for x in 0..SETS {
         let set = set_at(x);
-        if listed(archive, z, filled, k, set) {
+        if listed(records, filled, k, set) {
             sets[count] = (set % 256) as u8;
             count += 1;
         }
@@ -96,5 +92,6 @@ pub fn losses(archive: &[u8], k: usize, sets: &mut [u8]) -> Result<usize, Refusa
     if sets.len() != LIST_LENGTH {
         return Err(Refusal::Length);
     }
-    Ok(list_losses(archive, k, sets))
+    let records = Records { z, bytes: archive };
+    Ok(list_losses(records, k, sets))
 }

@@ -10,10 +10,10 @@ use Rattle.keystream.specs.Draws.{byte_at}
 use Rattle.mask.specs.Masks.{F2, mask_row}
 
 -- a buffer that was filled with the blocks of a stream
-module _ (key : List ℕ) (nonce : List ℕ) (count e : ℕ) (before : List ℕ) {out : List ℕ} (fits : 64 * count ≤ length before)
-    (filled : out ≡ put (64 * count) 0 (byte_at key nonce) before) (l : e < 64 * count) where
+module _ (key : List ℕ) (nonce : List ℕ) (size e : ℕ) (before : List ℕ) {out : List ℕ} (fits : size ≤ length before)
+    (filled : out ≡ put size 0 (byte_at key nonce) before) (l : e < size) where
   stream_filled : at out e ≡ byte_at key nonce e
-  stream_filled = ap (λ (s : List ℕ). at s e) filled ∙ put_front (64 * count) (byte_at key nonce) before e l fits
+  stream_filled = ap (λ (s : List ℕ). at s e) filled ∙ put_front size (byte_at key nonce) before e l fits
 
   pub row_filled : (id : List ℕ) (i : ℕ) → nonce ≡ 2 ∷ 0 ∷ (i + 1) / 256 % 256 ∷ (i + 1) % 256 ∷ id → at out e ≡ mask_row key id i e
   unfolding mask_row F2

@@ -5,9 +5,9 @@ use mathlib.Core.List.{List, ◌∷◌}
 use native.Mathlib.Omega.{arith}
 use lib.ListN.{length}
 use borrow.Rule.Slice.PartMut.{put_mid}
-use Rattle.lists.specs.Lists.{at, put, grid}
+use Rattle.lists.specs.Lists.{at, tab, grid}
 use Rattle.lists.proofs.PutLaws.{length_put, put_front, length_grid, grid_at, grid_more, flat_same}
-use Rattle.lists.proofs.ChainLaws.{put_part}
+use Rattle.lists.proofs.SliceLaws.{put_written}
 use Rattle.lists.proofs.AnyLaws.{none_at}
 use Rattle.answer.specs.Answer.{Outcome, done}
 use Rattle.answer.proofs.RefusalLaws.{accepted, same}
@@ -41,13 +41,11 @@ module _ (tag_key mask_key id : List ℕ) (n tags : ℕ) (out : List ℕ) {o : O
 -- key vectors one after another: one more, and their elements
 module _ (tag_key id d : List ℕ) where
   pub vectors_more : (s : ℕ) (before : List ℕ) {vector vectors : List ℕ} {place n : ℕ} → length before ≡ n_most → length d ≡ vectors_most → s < tags_most
-      → vector ≡ put n_most 0 (key_vector tag_key id s) before → vectors ≡ grid s n_most 0 (key_vector tag_key id) d
+      → vector ≡ tab (length before) (key_vector tag_key id s) → vectors ≡ grid s n_most 0 (key_vector tag_key id) d
       → place ≡ 0 + s * n_most → n ≡ n_most → put_mid place n vectors vector ≡ grid (s + 1) n_most 0 (key_vector tag_key id) d
   vectors_more s before {vector} {vectors} {place} {n} l ld h f g p e =
-      let size : length vector ≡ n_most = ap length f ∙ length_put n_most 0 (key_vector tag_key id s) before ∙ l in
       let long : length vectors ≡ length d = ap length g ∙ length_grid s n_most 0 (key_vector tag_key id) d in
-      put_part place n_most n (key_vector tag_key id s) vectors vector e size (omega arith)
-      (λ i r. ap (λ (x : List ℕ). at x i) f ∙ put_front n_most (key_vector tag_key id s) before i r (omega arith))
+      put_written n_most place (key_vector tag_key id s) vectors e (omega arith) (f ∙ ap (λ (m : ℕ). tab m (key_vector tag_key id s)) l)
       ∙ grid_more s n_most 0 (key_vector tag_key id) d g p
 
   pub vectors_at : (tags count : ℕ) {vectors : List ℕ} → length d ≡ vectors_most → tags ≤ count → count ≤ tags_most

@@ -6,7 +6,7 @@ mod rows;
 ghost use Rattle.std.specs.Prelude.{◌≡◌, ℕ, ◌+◌, ◌-◌, ◌*◌, ◌<◌, ◌≤◌, length};
 ghost use Rattle.lists.specs.Lists.{at, any_below};
 ghost use Rattle.answer.specs.Refusals.{differs};
-ghost use Rattle.sizes.specs.Lengths.{vectors_most, id_length, key_length, n_least, n_most, tags_most, auxiliary_length};
+ghost use Rattle.sizes.specs.Lengths.{vectors_most, n_least, n_most, tags_most, auxiliary_length};
 ghost use Rattle.vector.specs.Vectors.{all_zero};
 ghost use Rattle.tag.specs.KeyVector.{key_vector};
 ghost use Rattle.mask.specs.Masks.{mask_row, auxiliary};
@@ -35,7 +35,8 @@ fn any_element(tag_key: Key, id: Id, s: usize, len: usize) -> bool
     false
 }
 
-// Whether the key vector of one of the tags is zero in its first n - 2 elements.
+// Whether the key vector of one of the tags is zero in its first n - 2 elements. Here and below `tags` is a count that was tested: a type
+// for it would be opened at once.
 fn any_zero_vector(tag_key: Key, id: Id, n: usize, tags: usize) -> bool
     requires { (n_least ≤ n)
         × (tags ≤ tags_most) }
@@ -86,13 +87,7 @@ fn key_vectors(tag_key: Key, id: Id, tags: usize, vectors: &mut [u8])
 {
     for s in 0..tags {
         let first = s * sizes::N_MOST;
-        tag::key_vector_into(
-            tag_key,
-            id,
-            s,
-            &mut vectors[first..first + sizes::N_MOST],
-            sizes::N_MOST / sizes::STREAM_BLOCK_LENGTH,
-        );
+        tag::key_vector_into(tag_key, id, s, &mut vectors[first..first + sizes::N_MOST]);
     }
 }
 

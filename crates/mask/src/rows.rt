@@ -1,7 +1,7 @@
 // Mask rows: what is made of all of them, one pass over each.
 ghost use Rattle.std.specs.Prelude.{◌≡◌, ℕ, ◌+◌, ◌-◌, ◌*◌, ◌<◌, ◌≤◌, ◌∷◌, length};
 ghost use Rattle.lists.specs.Lists.{at};
-ghost use Rattle.sizes.specs.Lengths.{id_length, n_least, n_most, tags_most, vectors_most, auxiliary_length, seed_length};
+ghost use Rattle.sizes.specs.Lengths.{n_least, n_most, tags_most, vectors_most, auxiliary_length};
 ghost use Rattle.keystream.specs.PrivateStream.{drawn, after};
 ghost use Rattle.vector.specs.Vectors.{product, added};
 ghost use Rattle.mask.specs.PrivateSpaced.{spaced};
@@ -34,7 +34,12 @@ impl MaskRows {
         let r = i + 1;
         let nonce = tag::id_nonce([2, 0, (r / 256 % 256) as u8, (r % 256) as u8], self.id);
         let mut row = [0u8; sizes::N_MOST];
-        keystream::fill(self.key, nonce, &mut row, (self.n + 61) / 64);
+        let blocks = (self.n + 61) / sizes::STREAM_BLOCK_LENGTH;
+        keystream::fill(
+            self.key,
+            nonce,
+            &mut row[..blocks * sizes::STREAM_BLOCK_LENGTH],
+        );
         row
     }
 
@@ -81,6 +86,7 @@ impl MaskRows {
             out.new
             ≡ auxiliary rows.n tags (λ s e. at vectors (s * n_most + e)) (mask_row rows.key rows.id) }
     {
+        // by number: a row is made of it
         for i in 0..self.n - 1 {
             let row = self.row(i);
             self.products_into(tables, &row, vectors, tags, i, out);
@@ -95,6 +101,7 @@ impl MaskRows {
             ≡ added (rows.n - 2) 0 (mask rows.n (λ i. (drawn (after i coefficients)).byte) (mask_row rows.key rows.id)) out.old }
     {
         let mut s = coefficients;
+        // by number, as above
         for i in 0..self.n - 1 {
             let d = s.next();
             let row = self.row(i);
@@ -132,7 +139,7 @@ impl MaskRows {
     }
 }
 
-// The nonce of a seed.
+// The nonce of a seed. It is not `tag::id_nonce` with other lengths: no array's length is a sum of two.
 fn seed_nonce(seed: Seed) -> Nonce
     ensures { result ≡ 3 ∷ seed }
 {

@@ -19,7 +19,7 @@ fn place_in(message: &[u8], j: usize) -> usize
     bits::read_field(message, 11 * (j + 1), 3)
 }
 
-// Whether a place in a message of so many items is not above the one before it.
+// Whether a place in a message of so many items is not above the one before it: `any_fall` of fields of bits, which no slice lends.
 fn any_fall_in(message: &[u8], count: usize) -> bool
     requires { (count ≤ 8) × (challenge_bits count ≤ 8 * length message.now) }
     ensures { let message = message.entry.now in

@@ -28,7 +28,7 @@ fn any_fall(places: &[u8]) -> bool
     places.windows(2).any(|pair| pair[1] <= pair[0])
 }
 
-// With `|`, here and in `asked::malformed`, as in every check: the tests then stand side by side as in the rule.
+// With `|`, here and in `asked::malformed`, as in most checks: the tests then stand side by side as in the rule.
 fn out_of_rule(node: usize, places: &[u8]) -> bool
     ensures { result ≡ out_of_rule node places.now }
 {

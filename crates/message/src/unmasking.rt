@@ -1,7 +1,7 @@
 // Unmask: the masked bytes of a response without their mask.
 ghost use Rattle.std.specs.Prelude.{◌≡◌, ◌-◌, ◌≤◌, length};
 ghost use Rattle.lists.specs.Lists.{tab};
-ghost use Rattle.sizes.specs.Lengths.{n_least, n_most, sum_at};
+ghost use Rattle.sizes.specs.Lengths.{sum_at};
 ghost use Rattle.message.specs.Unmask.{unmask_answer, unmasked, unmask_out};
 
 use answer::Refusal;

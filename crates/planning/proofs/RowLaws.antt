@@ -101,11 +101,10 @@ module _ (z : Sizes) (s helpers : List ℕ) (q : ℕ) (gammas : List ℕ) where
   -- what is known of them all
   abbrev pub Sendable : Type 0
   Sendable =
-      (sizes_outside z ≡ false) × (length s ≡ archive_length z) × (1 ≤ q) × (length helpers * q ≤ 40) × (helper_missing z helpers ≡ false)
-      × (length gammas ≡ coefficient_count z helpers q)
+      (1 ≤ q) × (length helpers * q ≤ 40) × (helper_missing z helpers ≡ false) × (length gammas ≡ coefficient_count z helpers q)
 
-  pub turn : Sendable → (t : ℕ) {h : ℕ} → t < length helpers * q → h ≡ at helpers (t / q) → Turn t h
-  turn (outside, sized, some, few, present, long) t {h} l is =
+  pub turn : sizes_outside z ≡ false → Sendable → (t : ℕ) {h : ℕ} → t < length helpers * q → h ≡ at helpers (t / q) → Turn t h
+  turn outside (some, few, present, long) t {h} l is =
       let R = ranged z outside in
       let there = helper_there some t l in
       let node : h < z.nodes = rw is (leb-false _ _ (any_below_lem _ _ present (t / q) there)) in

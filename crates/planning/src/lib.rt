@@ -9,6 +9,7 @@ ghost use Rattle.answer.specs.Refusals.{Passed};
 ghost use Rattle.archive.specs.Plan.{plan_before, PlanAllows};
 
 use answer::Refusal;
+use archive::Records;
 use choice::Rows;
 use field::Tables;
 use rows::repair_rows;
@@ -45,7 +46,8 @@ fn plan_check(
     if coding::any_missing(helpers, z.nodes) {
         return Err(Refusal::NoSuchPlace);
     }
-    if coding::any_helper_empty(archive, z, helpers) {
+    let records = Records { z, bytes: archive };
+    if coding::any_helper_empty(records, helpers) {
         return Err(Refusal::PlaceEmpty);
     }
     Ok(())
@@ -72,7 +74,8 @@ fn plan_thetas(
     let z = archive::sizes_in(archive);
     let wanted = Wanted { z, rows };
     let count = helpers.len() * q;
-    let sent = repair_rows(&tables, archive, z, helpers, q, gammas);
+    let records = Records { z, bytes: archive };
+    let sent = repair_rows(&tables, records, helpers, q, gammas);
     let all = Rows {
         bytes: &sent,
         start: 0,
@@ -81,14 +84,19 @@ fn plan_thetas(
         m: z.m,
     };
     let c = all.choose([true; 48]);
-    let numbers = c.numbers;
-    let taken = all.rows_of(numbers, c.count);
+    let taken = all.rows_of(c.numbers, c.count);
     let reduced = linear::reduce(linear::turned(taken), z.m, c.count);
-    let combinations = reduced.combinations;
-    if !wanted.reached(&tables, combinations, c.count) {
+    if !wanted.reached(&tables, reduced.combinations, c.count) {
         return Err(Refusal::NoPlan);
     }
-    wanted.write_thetas(&tables, combinations, numbers, c.count, count, thetas);
+    wanted.write_thetas(
+        &tables,
+        reduced.combinations,
+        c.numbers,
+        c.count,
+        count,
+        thetas,
+    );
     Ok(())
 }
 

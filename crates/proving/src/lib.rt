@@ -4,15 +4,15 @@
 ghost use Rattle.std.specs.Prelude.{◌≡◌, false, not, ℕ, ◌+◌, ◌-◌, ◌<◌, ◌≤◌, length};
 ghost use Rattle.lists.specs.Lists.{at, tab, any_below};
 ghost use Rattle.answer.specs.Refusals.{Passed};
-ghost use Rattle.sizes.specs.Lengths.{response_length, record_length, n_least, n_most, m_most, tags_most, record_most};
+ghost use Rattle.sizes.specs.Lengths.{response_length, record_length, m_most, tags_most, record_most};
 ghost use Rattle.sizes.specs.Lengths.{auxiliary_length};
 ghost use Rattle.mask.specs.Masks.{mask_coefficient, mask_sum};
 ghost use Rattle.message.specs.Challenge.{challenge_of, not_there};
-ghost use Rattle.archive.specs.Layout.{sizes_of, id_of, filled_in, bad_archive};
+ghost use Rattle.archive.specs.Layout.{sizes_of, id_of, filled_in};
 ghost use Rattle.archive.specs.Prove.{prove_answer, response_for, named_byte, proved_for, prove_out};
 
 use answer::Refusal;
-use archive::{bad_archive, marked, sizes_in};
+use archive::{Records, bad_archive, marked, sizes_in};
 use field::Tables;
 use keystream::Key;
 use mask::{MaskRows, Seed};
@@ -20,27 +20,26 @@ use message::ChallengeMessage;
 use sizes::{record_length, record_start};
 
 // Whether named place j is empty.
-fn named_empty(archive: &[u8], challenge: &ChallengeMessage<'_>, j: usize) -> bool
-    requires { (bad_archive archive.now ≡ false)
-        × (not_there (sizes_of archive.now) challenge.now ≡ false)
-        × (j < length challenge.now.places) }
+fn named_empty(records: Records<'_>, challenge: &ChallengeMessage<'_>, j: usize) -> bool
+    requires { (not_there records.z challenge.now ≡ false) × (j < length challenge.now.places) }
     ensures { let c = challenge.now in
-        let archive = archive.entry.now in
-        result ≡ not (filled_in (sizes_of archive) archive c.node (at c.places j)) }
+        let records = records.entry in
+        result ≡ not (filled_in records.z records.bytes.now c.node (at c.places j)) }
 {
-    let z = sizes_in(archive);
-    !marked(archive, challenge.node() * z.places + challenge.place(j))
+    !marked(
+        records.bytes,
+        challenge.node() * records.z.places + challenge.place(j),
+    )
 }
 
 // Whether a named place is empty.
-fn any_named_empty(archive: &[u8], challenge: &ChallengeMessage<'_>) -> bool
-    requires { (bad_archive archive.now ≡ false)
-        × (not_there (sizes_of archive.now) challenge.now ≡ false) }
+fn any_named_empty(records: Records<'_>, challenge: &ChallengeMessage<'_>) -> bool
+    requires { not_there records.z challenge.now ≡ false }
     ensures { let c = challenge.now in
-        let archive = archive.entry.now in
-        result ≡ any_below (length c.places) (λ j. not (filled_in (sizes_of archive) archive c.node (at c.places j))) }
+        let records = records.entry in
+        result ≡ any_below (length c.places) (λ j. not (filled_in records.z records.bytes.now c.node (at c.places j))) }
 {
-    (0..challenge.count()).any(|j| named_empty(archive, challenge, j))
+    (0..challenge.count()).any(|j| named_empty(records, challenge, j))
 }
 
 // The first refusal of Prove.
@@ -75,7 +74,8 @@ fn prove_check(
     if challenge.not_there(z) {
         return Err(Refusal::NoSuchPlace);
     }
-    if any_named_empty(archive, &challenge) {
+    let records = Records { z, bytes: archive };
+    if any_named_empty(records, &challenge) {
         return Err(Refusal::PlaceEmpty);
     }
     Ok(())
@@ -84,19 +84,18 @@ fn prove_check(
 // The records of the named places, blocks and tags, combined by the challenge.
 fn named_record(
     tables: &Tables,
-    archive: &[u8],
+    records: Records<'_>,
     challenge: &ChallengeMessage<'_>,
 ) -> [u8; sizes::RECORD_MOST]
-    requires { (bad_archive archive.now ≡ false)
-        × (not_there (sizes_of archive.now) challenge.now ≡ false) }
-    ensures { let archive = archive.entry.now in
-        ((e : ℕ) → e < record_length (sizes_of archive) → at result e ≡ named_byte (sizes_of archive) archive challenge.now e) }
+    requires { not_there records.z challenge.now ≡ false }
+    ensures { let records = records.entry in
+        ((e : ℕ) → e < record_length records.z → at result e ≡ named_byte records.z records.bytes.now challenge.now e) }
 {
-    let z = sizes_in(archive);
+    let z = records.z;
     let start = record_start(z, challenge.node() * z.places);
     let len = record_length(z);
     let mut record = [0u8; sizes::RECORD_MOST];
-    challenge.add_named(tables, &archive[start..], &mut record[..len]);
+    challenge.add_named(tables, &records.bytes[start..], &mut record[..len]);
     record
 }
 
@@ -175,7 +174,8 @@ fn write_response(
     let challenge = ChallengeMessage::read(message).unwrap();
     let tables = Tables::new();
     let z = sizes_in(archive);
-    let combined = named_record(&tables, archive, &challenge);
+    let records = Records { z, bytes: archive };
+    let combined = named_record(&tables, records, &challenge);
     let node = challenge.node();
     let seed = Seed::try_from(seed).unwrap();
     let rows = MaskRows {

@@ -66,32 +66,16 @@ fn challenge(
     message: usize,
 ) -> io::Result<()> {
     let named = Lent::filled(7, places).with_start(&[place, next]);
-    let mut lent = Lent::filled(0xa5, message);
-    let answer = message::challenge(
-        node,
-        named.as_slice(),
-        first(&[1; 64], coefficients),
-        lent.as_mut_slice(),
-    );
-    cases::answered(rt, label, expected, answer)?;
-    cases::kept(rt, &lent)
+    cases::refused_into(rt, label, expected, message, |out| {
+        message::challenge(node, named.as_slice(), first(&[1; 64], coefficients), out)
+    })
 }
 
 // The order: 2 for lists of unequal length, 9 for fields, 2 for the output.
 fn challenge_refused(rt: &impl Print) -> io::Result<()> {
     challenge(rt, "Challenge, lists of 2 and 1", 2, 9, 2, 0, 1, 1, 5)?;
     challenge(rt, "Challenge, node 6", 9, 6, 2, 0, 1, 2, 0)?;
-    challenge(
-        rt,
-        "Challenge, node 2^64-1",
-        9,
-        18446744073709551615,
-        2,
-        0,
-        1,
-        2,
-        5,
-    )?;
+    challenge(rt, "Challenge, node 2^64-1", 9, usize::MAX, 2, 0, 1, 2, 5)?;
     challenge(rt, "Challenge, no item", 9, 2, 0, 0, 1, 0, 2)?;
     challenge(rt, "Challenge, 9 items", 9, 2, 9, 0, 1, 9, 14)?;
     challenge(rt, "Challenge, place 8", 9, 2, 2, 7, 8, 2, 5)?;
@@ -227,11 +211,11 @@ fn sized(
 fn sizes(rt: &impl Print) -> io::Result<()> {
     sized(rt, "Verdict, n=2", 1, 2, 2, 2, 3, 1)?;
     sized(rt, "Verdict, m=17", 1, 3, 17, 2, 3, 1)?;
-    sized(rt, "Verdict, M=2^63", 1, 3, 2, 9223372036854775808, 3, 1)?;
+    sized(rt, "Verdict, M=2^63", 1, 3, 2, 1 << 63, 3, 1)?;
     sized(rt, "Verdict, N=0", 1, 3, 2, 2, 0, 1)?;
     sized(rt, "Verdict, L=0", 1, 3, 2, 2, 3, 0)?;
     sized(rt, "Verdict, L=11", 1, 3, 2, 2, 3, 11)?;
-    sized(rt, "Verdict, L=2^63", 1, 3, 2, 2, 3, 9223372036854775808)?;
+    sized(rt, "Verdict, L=2^63", 1, 3, 2, 2, 3, 1 << 63)?;
     sized(rt, "Verdict, N=2", 4, 3, 2, 2, 2, 1)?;
     sized(rt, "Verdict, n=4", 2, 4, 2, 2, 3, 1)
 }

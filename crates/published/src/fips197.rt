@@ -78,17 +78,15 @@ fn bit(b: u8, i: u8) -> u8 {
 // 5.1.1: the inverse, which maps 00 to itself, then the affine map, bit by bit.
 fn substituted(x: u8) -> u8 {
     let b = field::inverse(x);
-    let mut r = 0u8;
-    for i in 0u8..8 {
+    (0u8..8).fold(0, |r, i| {
         let s = bit(b, i)
             ^ bit(b, i + 4)
             ^ bit(b, i + 5)
             ^ bit(b, i + 6)
             ^ bit(b, i + 7)
             ^ bit(0x63, i);
-        r |= s << i;
-    }
-    r
+        r | (s << i)
+    })
 }
 
 fn sbox(rt: &impl Print) -> io::Result<()> {
@@ -101,13 +99,9 @@ fn sbox(rt: &impl Print) -> io::Result<()> {
 
 // The product of the polynomials a and b, of up to fifteen bits.
 fn polynomial_product(a: u8, b: u8) -> u32 {
-    let mut p = 0u32;
-    for i in 0u8..8 {
-        if bit(a, i) == 1 {
-            p ^= u32::from(b) << i;
-        }
-    }
-    p
+    (0u8..8)
+        .filter(|i| bit(a, *i) == 1)
+        .fold(0, |p, i| p ^ (u32::from(b) << i))
 }
 
 // A polynomial of up to fifteen bits, the modulus subtracted from the top down.

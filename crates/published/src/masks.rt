@@ -78,38 +78,27 @@ fn setup(
     out: usize,
 ) -> io::Result<()> {
     let given = [0xa5u8; 64];
-    let mut lent = Lent::filled(0xa5, out);
-    let answer = mask::setup(
-        first(&given, tag_key),
-        first(&given, mask_key),
-        first(&given, id),
-        n,
-        tags,
-        lent.as_mut_slice(),
-    );
-    cases::answered(rt, label, expected, answer)?;
-    cases::kept(rt, &lent)
+    cases::refused_into(rt, label, expected, out, |out| {
+        mask::setup(
+            first(&given, tag_key),
+            first(&given, mask_key),
+            first(&given, id),
+            n,
+            tags,
+            out,
+        )
+    })
 }
 
 fn setup_refused(rt: &impl Print) -> io::Result<()> {
     setup(rt, "Setup, n=0", 1, 32, 32, 8, 0, 1, 2)?;
     setup(rt, "Setup, n=2", 1, 32, 32, 8, 2, 1, 1)?;
     setup(rt, "Setup, n=1025", 1, 0, 0, 0, 1025, 1, 0)?;
-    setup(rt, "Setup, n=2^63", 1, 0, 0, 0, 9223372036854775808, 1, 0)?;
-    setup(
-        rt,
-        "Setup, n=2^64-1",
-        1,
-        0,
-        0,
-        0,
-        18446744073709551615,
-        1,
-        0,
-    )?;
+    setup(rt, "Setup, n=2^63", 1, 0, 0, 0, 1 << 63, 1, 0)?;
+    setup(rt, "Setup, n=2^64-1", 1, 0, 0, 0, usize::MAX, 1, 0)?;
     setup(rt, "Setup, L=0", 1, 32, 32, 8, 3, 0, 0)?;
     setup(rt, "Setup, L=11", 1, 32, 32, 8, 3, 11, 22)?;
-    setup(rt, "Setup, L=2^63", 1, 32, 32, 8, 3, 9223372036854775808, 0)?;
+    setup(rt, "Setup, L=2^63", 1, 32, 32, 8, 3, 1 << 63, 0)?;
     setup(rt, "Setup, no tag key", 2, 0, 32, 8, 3, 1, 2)?;
     setup(rt, "Setup, mask key of 31 bytes", 2, 32, 31, 8, 3, 1, 2)?;
     setup(rt, "Setup, id of 9 bytes", 2, 32, 32, 9, 3, 1, 2)?;
@@ -136,91 +125,47 @@ fn unmask(
 ) -> io::Result<()> {
     let given = [0xa5u8; 64];
     let got = Lent::filled(0xa5, response).with_start(&[start]);
-    let mut lent = Lent::filled(0xa5, out);
-    let answer = message::unmask(
-        n,
-        tags,
-        first(&given, id),
-        first(&given, mask_key),
-        got.as_slice(),
-        lent.as_mut_slice(),
-    );
-    cases::answered(rt, label, expected, answer)?;
-    cases::kept(rt, &lent)
+    cases::refused_into(rt, label, expected, out, |out| {
+        message::unmask(
+            n,
+            tags,
+            first(&given, id),
+            first(&given, mask_key),
+            got.as_slice(),
+            out,
+        )
+    })
+}
+
+// With n=3 and an id, a key and an output of the right lengths.
+fn unmask_response(
+    rt: &impl Print,
+    label: &str,
+    expected: u64,
+    tags: usize,
+    response: usize,
+    start: u8,
+) -> io::Result<()> {
+    unmask(rt, label, expected, 3, tags, 8, 32, response, start, 1)
 }
 
 fn unmask_refused(rt: &impl Print) -> io::Result<()> {
     unmask(rt, "Unmask, n=2", 1, 2, 1, 8, 32, 16, 0x24, 0)?;
-    unmask(
-        rt,
-        "Unmask, n=2^64-1",
-        1,
-        18446744073709551615,
-        1,
-        0,
-        0,
-        0,
-        0,
-        0,
-    )?;
-    unmask(rt, "Unmask, L=0", 1, 3, 0, 8, 32, 15, 0x24, 1)?;
-    unmask(rt, "Unmask, L=11", 1, 3, 11, 8, 32, 37, 0x24, 1)?;
-    unmask(
-        rt,
-        "Unmask, L=2^63",
-        1,
-        3,
-        9223372036854775808,
-        8,
-        32,
-        15,
-        0x24,
-        1,
-    )?;
+    unmask(rt, "Unmask, n=2^64-1", 1, usize::MAX, 1, 0, 0, 0, 0, 0)?;
+    unmask_response(rt, "Unmask, L=0", 1, 0, 15, 0x24)?;
+    unmask_response(rt, "Unmask, L=11", 1, 11, 37, 0x24)?;
+    unmask_response(rt, "Unmask, L=2^63", 1, 1 << 63, 15, 0x24)?;
     unmask(rt, "Unmask, id of 7 bytes", 2, 3, 1, 7, 32, 17, 0x24, 1)?;
     unmask(rt, "Unmask, key of 33 bytes", 2, 3, 1, 8, 33, 17, 0x24, 1)?;
-    unmask(rt, "Unmask, response one long", 2, 3, 1, 8, 32, 18, 0x24, 1)?;
-    unmask(rt, "Unmask, no response", 2, 3, 1, 8, 32, 0, 0, 1)?;
-    unmask(
-        rt,
-        "Unmask, L=3, response one short",
-        2,
-        3,
-        3,
-        8,
-        32,
-        20,
-        0x24,
-        1,
-    )?;
-    unmask(
-        rt,
-        "Unmask, L=3, response one long",
-        2,
-        3,
-        3,
-        8,
-        32,
-        22,
-        0x24,
-        1,
-    )?;
-    unmask(
-        rt,
-        "Unmask, L=3, response of one tag",
-        2,
-        3,
-        3,
-        8,
-        32,
-        17,
-        0x24,
-        1,
-    )?;
+    unmask_response(rt, "Unmask, response one long", 2, 1, 18, 0x24)?;
+    unmask_response(rt, "Unmask, no response", 2, 1, 0, 0)?;
+    unmask_response(rt, "Unmask, L=3, response one short", 2, 3, 20, 0x24)?;
+    unmask_response(rt, "Unmask, L=3, response one long", 2, 3, 22, 0x24)?;
+    unmask_response(rt, "Unmask, L=3, response of one tag", 2, 3, 17, 0x24)?;
     unmask(rt, "Unmask, output of 0 bytes", 2, 3, 1, 8, 32, 17, 0x24, 0)?;
-    unmask(rt, "Unmask, kind 1", 9, 3, 1, 8, 32, 17, 0x14, 1)?;
-    unmask(rt, "Unmask, node 6", 9, 3, 1, 8, 32, 17, 0x2c, 1)?;
-    unmask(rt, "Unmask, bit 7 set", 9, 3, 1, 8, 32, 17, 0x25, 1)
+    unmask_response(rt, "Unmask, kind 1", 9, 1, 17, 0x14)?;
+    unmask_response(rt, "Unmask, node 6", 9, 1, 17, 0x2c)?;
+    unmask_response(rt, "Unmask, bit 7 set", 9, 1, 17, 0x25)
 }
 
 pub fn run(rt: &impl Print) -> io::Result<()> {

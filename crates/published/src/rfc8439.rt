@@ -181,53 +181,29 @@ fn refused(
 
 // A wrong length is refused with 2, and the output keeps its bytes.
 fn refusals(rt: &impl Print) -> io::Result<()> {
-    let key = [0xa5u8; 32];
-    let nonce = [0xa5u8; 12];
-    let mut out = [0xa5u8; 64];
-    refused(
-        rt,
-        "Block, key of 31 bytes",
-        &[0xa5u8; 31],
-        &nonce,
-        &mut out,
-    )?;
-    refused(
-        rt,
-        "Block, key of 33 bytes",
-        &[0xa5u8; 33],
-        &nonce,
-        &mut out,
-    )?;
-    refused(rt, "Block, no key", &[0xa5u8; 0], &nonce, &mut out)?;
-    refused(
-        rt,
-        "Block, nonce of 11 bytes",
-        &key,
-        &[0xa5u8; 11],
-        &mut out,
-    )?;
-    refused(
-        rt,
-        "Block, nonce of 13 bytes",
-        &key,
-        &[0xa5u8; 13],
-        &mut out,
-    )?;
-    cases::bytes(rt, "Block, output after refusals", &[0xa5u8; 64], &out)?;
-    let mut short = [0xa5u8; 63];
+    let key = [0xa5; 32];
+    let nonce = [0xa5; 12];
+    let mut out = [0xa5; 64];
+    refused(rt, "Block, key of 31 bytes", &[0xa5; 31], &nonce, &mut out)?;
+    refused(rt, "Block, key of 33 bytes", &[0xa5; 33], &nonce, &mut out)?;
+    refused(rt, "Block, no key", &[0xa5; 0], &nonce, &mut out)?;
+    refused(rt, "Block, nonce of 11 bytes", &key, &[0xa5; 11], &mut out)?;
+    refused(rt, "Block, nonce of 13 bytes", &key, &[0xa5; 13], &mut out)?;
+    cases::bytes(rt, "Block, output after refusals", &[0xa5; 64], &out)?;
+    let mut short = [0xa5; 63];
     refused(rt, "Block, output of 63 bytes", &key, &nonce, &mut short)?;
     cases::bytes(
         rt,
         "Block, output of 63 bytes after its refusal",
-        &[0xa5u8; 63],
+        &[0xa5; 63],
         &short,
     )?;
-    let mut long = [0xa5u8; 65];
+    let mut long = [0xa5; 65];
     refused(rt, "Block, output of 65 bytes", &key, &nonce, &mut long)?;
     cases::bytes(
         rt,
         "Block, output of 65 bytes after its refusal",
-        &[0xa5u8; 65],
+        &[0xa5; 65],
         &long,
     )
 }

@@ -1,7 +1,6 @@
 // The rows of an archive, by node and then place: which of them may be taken, those of filled places; which are; and the elimination of these.
-ghost use Rattle.std.specs.Prelude.{◌≡◌, false, ℕ, ◌<◌, ◌≤◌, length};
-ghost use Rattle.sizes.specs.Sizes.{sizes_outside};
-ghost use Rattle.sizes.specs.Lengths.{header_length, place_count, archive_length};
+ghost use Rattle.std.specs.Prelude.{◌≡◌, ℕ, ◌<◌, ◌≤◌};
+ghost use Rattle.sizes.specs.Lengths.{place_count};
 ghost use Rattle.lists.specs.Lists.{at};
 ghost use Rattle.linear.specs.PrivateElimination.{cells, Reduces};
 ghost use Rattle.choice.specs.PrivateChoice.{offered, listed_rows, WholeChoice};
@@ -9,18 +8,18 @@ ghost use Rattle.archive.specs.Layout.{mark_at};
 ghost use Rattle.archive.specs.Read.{row_in};
 ghost use Rattle.reading.specs.PrivateRows.{RowsIn};
 
+use archive::Records;
 use choice::{Chosen, Rows};
 use linear::Reduced;
-use sizes::Sizes;
 use std::array;
 
 // Where the rows of an archive stand.
-fn rows_in(archive: &[u8], z: Sizes) -> Rows<'_>
-    requires { (sizes_outside z ≡ false) × (length archive.now ≡ archive_length z) }
-    ensures { RowsIn z archive.now result }
+fn rows_in(records: Records<'_>) -> Rows<'_>
+    ensures { let records = records.entry in RowsIn records.z records.bytes.now result }
 {
+    let z = records.z;
     Rows {
-        bytes: archive,
+        bytes: records.bytes,
         start: sizes::HEADER_LENGTH + z.n,
         stride: sizes::record_length(z),
         count: z.nodes * z.places,
@@ -29,31 +28,30 @@ fn rows_in(archive: &[u8], z: Sizes) -> Rows<'_>
 }
 
 // Which places are filled.
-pub fn marks(archive: &[u8], z: Sizes) -> [bool; 48]
-    requires { (sizes_outside z ≡ false) × (header_length ≤ length archive.now) }
-    ensures { let archive = archive.entry.now in
-        ((k : ℕ) → k < place_count z → offered result k ≡ mark_at archive k) }
+pub fn marks(records: Records<'_>) -> [bool; 48]
+    ensures { let records = records.entry in
+        ((k : ℕ) → k < place_count records.z → offered result k ≡ mark_at records.bytes.now k) }
 {
-    array::from_fn(|k| archive::marked(archive, k))
+    array::from_fn(|k| archive::marked(records.bytes, k))
 }
 
 // The places taken among the candidates.
-pub fn take(archive: &[u8], z: Sizes, candidates: [bool; 48]) -> Chosen
-    requires { (sizes_outside z ≡ false) × (length archive.now ≡ archive_length z) }
-    ensures { WholeChoice (place_count z) z.m (row_in z archive.now) (offered candidates) result }
+pub fn take(records: Records<'_>, candidates: [bool; 48]) -> Chosen
+    ensures { let records = records.entry in
+        let z = records.z in
+        WholeChoice (place_count z) z.m (row_in z records.bytes.now) (offered candidates) result }
 {
-    rows_in(archive, z).choose(candidates)
+    rows_in(records).choose(candidates)
 }
 
 // Elimination of the rows of the places taken.
-pub fn eliminate(archive: &[u8], z: Sizes, chosen: Chosen) -> Reduced
-    requires { (sizes_outside z ≡ false)
-        × (length archive.now ≡ archive_length z)
-        × (chosen.count ≤ z.m)
-        × ((t : ℕ) → t < chosen.count → at chosen.numbers t < place_count z) }
-    ensures { let archive = archive.entry.now in
-        Reduces chosen.count z.m (listed_rows (row_in z archive) chosen) (cells result.combinations) result.rank }
+pub fn eliminate(records: Records<'_>, chosen: Chosen) -> Reduced
+    requires { (chosen.count ≤ records.z.m)
+        × ((t : ℕ) → t < chosen.count → at chosen.numbers t < place_count records.z) }
+    ensures { let records = records.entry in
+        let z = records.z in
+        Reduces chosen.count z.m (listed_rows (row_in z records.bytes.now) chosen) (cells result.combinations) result.rank }
 {
-    let rows = rows_in(archive, z).rows_of(chosen.numbers, chosen.count);
-    linear::reduce(rows, chosen.count, z.m)
+    let rows = rows_in(records).rows_of(chosen.numbers, chosen.count);
+    linear::reduce(rows, chosen.count, records.z.m)
 }

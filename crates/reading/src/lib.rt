@@ -10,6 +10,7 @@ ghost use Rattle.sizes.specs.Lengths.{file_length};
 ghost use Rattle.archive.specs.Read.{ReadAllows};
 
 use answer::Refusal;
+use archive::Records;
 pub use choosing::{eliminate, marks, take};
 use solving::solve;
 
@@ -19,12 +20,13 @@ fn read_file(archive: &[u8], file: &mut [u8]) -> Result<usize, Refusal>
     ensures { ReadAllows archive.now file.old result file.new }
 {
     let z = archive::sizes_in(archive);
-    let chosen = take(archive, z, marks(archive, z));
-    let reduced = eliminate(archive, z, chosen);
+    let records = Records { z, bytes: archive };
+    let chosen = take(records, marks(records));
+    let reduced = eliminate(records, chosen);
     if reduced.rank < z.m {
         return Err(Refusal::Unreadable);
     }
-    solve(archive, z, chosen.numbers, reduced.combinations, file);
+    solve(records, chosen.numbers, reduced.combinations, file);
     Ok(chosen.consulted)
 }
 

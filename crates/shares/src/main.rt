@@ -2,7 +2,7 @@
 // every refusal.
 #![tactic(auto)]
 
-use cases::{Archive, LIVED, LIVED_OF_THREE, Lent};
+use cases::{Archive, LIVED, LIVED_OF_THREE};
 use std::io;
 
 // ---- what an archive tells
@@ -24,15 +24,8 @@ fn told(s: &Archive) -> [u8; 7] {
         &mut nodes,
         &mut tags,
     );
-    [
-        answer::number(answer),
-        (layout % 256) as u8,
-        (n % 256) as u8,
-        (m % 256) as u8,
-        (places % 256) as u8,
-        (nodes % 256) as u8,
-        (tags % 256) as u8,
-    ]
+    let answer = usize::from(answer::number(answer));
+    [answer, layout, n, m, places, nodes, tags].map(|x| (x % 256) as u8)
 }
 
 fn sizes(rt: &impl Print, label: &str, s: &Archive, expected: [u8; 7]) -> io::Result<()> {
@@ -59,10 +52,9 @@ fn rows_refused(
     node: usize,
     len: usize,
 ) -> io::Result<()> {
-    let mut lent = Lent::filled(0xa5, len);
-    let answer = gathering::rows(&LIVED, node, lent.as_mut_slice());
-    cases::answered(rt, label, expected, answer)?;
-    cases::kept(rt, &lent)
+    cases::refused_into(rt, label, expected, len, |out| {
+        gathering::rows(&LIVED, node, out)
+    })
 }
 
 fn telling(rt: &impl Print) -> io::Result<()> {
@@ -157,10 +149,9 @@ fn refused(
     share: &Archive,
     node: usize,
 ) -> io::Result<()> {
-    let mut t = *s;
-    let answer = gathering::gather(t.as_mut_slice(), share.as_slice(), node);
-    cases::answered(rt, label, expected, answer)?;
-    cases::unchanged(rt, s, &t)
+    cases::refused_on(rt, label, expected, s, |archive| {
+        gathering::gather(archive, share.as_slice(), node)
+    })
 }
 
 // Into the first life's archive, where node 0 is empty.
@@ -214,25 +205,17 @@ fn same_length(rt: &impl Print) -> io::Result<()> {
 // ---- bad archives
 
 fn gather_into(rt: &impl Print, s: &Archive) -> io::Result<u8> {
-    let mut t = *s;
-    let answer = gathering::gather(t.as_mut_slice(), &LIVED, 0);
-    cases::unchanged(rt, s, &t)?;
-    Ok(answer::number(answer))
+    cases::answer_on(rt, s, |archive| gathering::gather(archive, &LIVED, 0))
 }
 
 fn gather_from(rt: &impl Print, share: &Archive) -> io::Result<u8> {
-    let s = Archive::of(&LIVED);
-    let mut t = s;
-    let answer = gathering::gather(t.as_mut_slice(), share.as_slice(), 0);
-    cases::unchanged(rt, &s, &t)?;
-    Ok(answer::number(answer))
+    cases::answer_on(rt, &Archive::of(&LIVED), |archive| {
+        gathering::gather(archive, share.as_slice(), 0)
+    })
 }
 
 fn rows_of(rt: &impl Print, s: &Archive) -> io::Result<u8> {
-    let mut lent = Lent::filled(0xa5, 4);
-    let answer = gathering::rows(s.as_slice(), 1, lent.as_mut_slice());
-    cases::kept(rt, &lent)?;
-    Ok(answer::number(answer))
+    cases::answer_into(rt, 4, |out| gathering::rows(s.as_slice(), 1, out))
 }
 
 // Sizes, Gather into it and from it, and Rows.
@@ -279,7 +262,7 @@ fn nodes(rt: &impl Print) -> io::Result<()> {
     no_gather(rt, "Gather, node 3", 4, 0x3c, 3)?;
     no_gather(rt, "Gather, node 256", 4, 0x3c, 256)?;
     no_gather(rt, "Gather, node 2^32", 4, 0x3c, 4294967296)?;
-    no_gather(rt, "Gather, node 2^64-1", 4, 0x3c, 18446744073709551615)?;
+    no_gather(rt, "Gather, node 2^64-1", 4, 0x3c, usize::MAX)?;
     no_gather(rt, "Gather, a filled node", 6, 0x3c, 2)?;
     no_gather(rt, "Gather, its first place filled", 6, 0x80, 0)?;
     no_gather(rt, "Gather, its last place filled", 6, 0x40, 0)?;

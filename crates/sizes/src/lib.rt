@@ -70,7 +70,7 @@ pub struct Sizes {
     pub tags: usize,
 }
 
-// Whether n is outside its range.
+// Whether n is outside its range. Here and below by the one test of a range, which has no names for the ranges.
 pub fn n_outside(n: usize) -> bool
     ensures { result ≡ n_outside n }
 {

@@ -1,4 +1,5 @@
-// The archive's operations for C and Rust: numbers and byte slices in, the answer's number out (include/span_archive.h).
+// The archive's operations for C and Rust: numbers and byte slices in, the answer's number out, any other value into lent memory
+// (include/span_archive.h).
 #![tactic(auto)]
 
 ghost use Rattle.std.specs.Prelude.{◌≡◌, ◌<◌, length};

@@ -3,8 +3,8 @@ use Prim.Native.Nat.{ℕ, ◌+◌, ◌-◌, ◌*◌}
 use mathlib.Core.Path.{◌≡◌, refl, ◌∙◌}
 use mathlib.Core.List.{List, ◌∷◌}
 use native.Mathlib.Omega.{arith}
-use Rattle.lists.specs.Lists.{put}
-use Rattle.lists.proofs.PutLaws.{put_same}
+use Rattle.lists.specs.Lists.{tab}
+use Rattle.lists.proofs.TabLaws.{tab_same}
 use Rattle.keystream.specs.declared.stream.Stream.{Stream}
 use Rattle.keystream.specs.Draws.{byte_at}
 use Rattle.keystream.specs.PrivateStream.{fresh}
@@ -21,6 +21,5 @@ module _ (key id : List ℕ) (s : ℕ) {nonce : List ℕ} (ids : nonce ≡ 1 ∷
   pub key_streamed : {stream : Stream} → stream ≡ fresh key nonce → GivesKeyVector key id s stream
   key_streamed e i = rw (e, ids) (draws_in_order key (1 ∷ s ∷ 0 ∷ 0 ∷ id) i ∙ key_byte key id s i)
 
-  pub key_filled : (count : ℕ) (before : List ℕ) {w : List ℕ} → w ≡ put (64 * count) 0 (byte_at key nonce) before
-      → w ≡ put (64 * count) 0 (key_vector key id s) before
-  key_filled count before e = e ∙ rw ids (put_same (64 * count) 0 _ _ before (λ i h. key_byte key id s i))
+  pub key_filled : (n : ℕ) {w : List ℕ} → w ≡ tab n (byte_at key nonce) → w ≡ tab n (key_vector key id s)
+  key_filled n e = e ∙ rw ids (tab_same n _ _ (λ i h. key_byte key id s i))

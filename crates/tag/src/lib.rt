@@ -1,9 +1,9 @@
 // Key vectors and tags (NC-Audit): F1, and the tags of a block.
 #![tactic(auto)]
 
-ghost use Rattle.std.specs.Prelude.{◌≡◌, ◌∷◌, ◌++◌, ◌+◌, ◌*◌, ◌<◌, ◌≤◌, length};
-ghost use Rattle.lists.specs.Lists.{at, tab, put};
-ghost use Rattle.sizes.specs.Lengths.{key_length, id_length, stream_block_length, tags_most};
+ghost use Rattle.std.specs.Prelude.{◌≡◌, ◌∷◌, ◌++◌, ◌+◌, ◌*◌, ◌%◌, ◌<◌, length};
+ghost use Rattle.lists.specs.Lists.{at, tab};
+ghost use Rattle.sizes.specs.Lengths.{stream_block_length, tags_most};
 ghost use Rattle.keystream.specs.PrivateStream.{drawn, after};
 ghost use Rattle.vector.specs.Vectors.{product};
 ghost use Rattle.tag.specs.KeyVector.{key_vector, TagsCombine};
@@ -27,7 +27,7 @@ pub fn id_nonce(head: [u8; 4], id: Id) -> Nonce
     nonce
 }
 
-// The nonce of F1 for tag s.
+// The nonce of F1 for tag s. Here and below s is below ten, as it was counted: a type for it would be opened at once.
 fn tag_nonce(s: usize, id: Id) -> Nonce
     requires { s < tags_most }
     ensures { result ≡ 1 ∷ s ∷ 0 ∷ 0 ∷ id }
@@ -43,15 +43,15 @@ pub fn key_stream(tag_key: Key, id: Id, s: usize) -> Stream
     Stream::new(tag_key, tag_nonce(s, id))
 }
 
-// The first 64 times `count` elements of that vector at the front of out: the same door, block by block.
-pub fn key_vector_into(tag_key: Key, id: Id, s: usize, out: &mut [u8], count: usize)
-    requires { (s < tags_most) × (stream_block_length * count ≤ length out.old) }
-    ensures { out.new ≡ put (stream_block_length * count) 0 (key_vector tag_key id s) out.old }
+// Fills out, which has whole blocks of the keystream, with the first elements of that vector: the same door, block by block.
+pub fn key_vector_into(tag_key: Key, id: Id, s: usize, out: &mut [u8])
+    requires { (s < tags_most) × (length out.old % stream_block_length ≡ 0) }
+    ensures { out.new ≡ tab (length out.old) (key_vector tag_key id s) }
 {
-    keystream::fill(tag_key, tag_nonce(s, id), out, count);
+    keystream::fill(tag_key, tag_nonce(s, id), out);
 }
 
-// The product of a vector and as many bytes of a stream.
+// The product of a vector and as many bytes of a stream, which is drawn by value (document 01's form) and so is no second slice.
 pub fn product_drawn(tables: &Tables, u: &[u8], s: Stream) -> u8
     ensures { result ≡ product (length u.now) (at u.now) (λ e. (drawn (after e s)).byte) }
 {

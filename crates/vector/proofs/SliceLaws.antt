@@ -1,15 +1,16 @@
 -- What a call on the part `&mut out[a..e]` leaves of the whole, and the products and combinations of parts. Assumes nothing.
 use Prim.Native.Nat.{ℕ, ◌+◌, ◌-◌, ◌*◌, ◌<◌, ◌≤◌}
-use mathlib.Core.Path.{◌≡◌, refl, sym, ap, ◌∙◌}
-use mathlib.Core.List.{List, ◌++◌}
+use mathlib.Core.Path.{◌≡◌, refl, ap, ◌∙◌}
+use mathlib.Core.List.{List}
 use native.Mathlib.Nat.{mul-le-mul_right}
 use native.Mathlib.Omega.{arith}
-use borrow.Rule.Slice.PartMut.{post_of, put_mid, same_len_mid}
-use lib.ListN.{length, take, drop, get_or-append}
-use lib.Seq.{length-take-le, get_or-take, get_or-drop}
+use borrow.Rule.Slice.PartMut.{put_mid}
+use lib.ListN.{length, take}
+use lib.Seq.{length-take-le, get_or-take}
 use Rattle.lists.specs.Lists.{at, put}
 use Rattle.lists.proofs.PartLaws.{part, length_part, part_at}
-use Rattle.lists.proofs.PutLaws.{length_put, put_front, put_same, is_put, skip}
+use Rattle.lists.proofs.PutLaws.{length_put, put_front, put_same}
+use Rattle.lists.proofs.SliceLaws.{put_part}
 use Rattle.field.specs.Field.{plus, times}
 use Rattle.vector.specs.Vectors.{product, mixed, added}
 use Rattle.vector.proofs.VectorLaws.{product_same, product_keys, mixed_same, mixed_vectors}
@@ -20,38 +21,10 @@ use Rattle.vector.proofs.AddedLaws.{added_same}
 module _ (a e len : ℕ) (out : List ℕ) (long : a + len ≡ e) (fits : e ≤ length out) where
   -- stores in the part are stores in the whole
   pub put_in_part : (f : ℕ → ℕ) (x : List ℕ) → x ≡ put (length (part a e out)) 0 f (part a e out) → put_mid a (e - a) out x ≡ put len a f out
-  put_in_part f x made = is_put len a f out (put_mid a (e - a) out x) same (omega arith) within below above
-    where
-      before : length (take a out) ≡ a
-      before = length-take-le a out (omega arith)
-
-      size : length (part a e out) ≡ len
-      size = length_part a e out fits ∙ omega arith
-
-      long_x : length x ≡ len
-      long_x = ap length made ∙ length_put (length (part a e out)) 0 f (part a e out) ∙ size
-
-      same : length (put_mid a (e - a) out x) ≡ length out
-      same = same_len_mid a (e - a) out x (long_x ∙ sym size)
-
-      within : (i : ℕ) → i < len → at (put_mid a (e - a) out x) (a + i) ≡ f i
-      within i h =
-          skip (take a out) (x ++ post_of a (e - a) out) a i before ∙ get_or-append x (post_of a (e - a) out) 0 i (omega (arith, long_x))
-          ∙ ap (λ (l : List ℕ). at l i) made
-          ∙ put_front (length (part a e out)) f (part a e out) i (omega (arith, size)) (omega arith)
-
-      below : (k : ℕ) → k < a → at (put_mid a (e - a) out x) k ≡ at out k
-      below k h = get_or-append (take a out) (x ++ post_of a (e - a) out) 0 k (omega (arith, before)) ∙ get_or-take a out k 0 h
-
-      above : (k : ℕ) → a + len ≤ k → at (put_mid a (e - a) out x) k ≡ at out k
-      above k h =
-          let j : ℕ = k - (a + len) in
-          let q : k ≡ a + (len + j) = omega arith in
-          let r : a + (e - a + j) ≡ k = omega arith in
-          ap (at (put_mid a (e - a) out x)) q
-          ∙ skip (take a out) (x ++ post_of a (e - a) out) a (len + j) before
-          ∙ skip x (post_of a (e - a) out) len j long_x
-          ∙ get_or-drop (e - a) (drop a out) j 0 ∙ get_or-drop a out (e - a + j) 0 ∙ ap (at out) r
+  put_in_part f x made =
+      let size : length (part a e out) ≡ len = length_part a e out fits ∙ omega arith in
+      put_part len a f out x (omega arith) (omega arith) (ap length made ∙ length_put (length (part a e out)) 0 f (part a e out) ∙ size)
+      (λ i h. ap (λ (l : List ℕ). at l i) made ∙ put_front (length (part a e out)) f (part a e out) i (omega (arith, size)) (omega arith))
 
   -- a vector added to the part is added to the whole
   pub added_in_part : (v : ℕ → ℕ) (x : List ℕ) → x ≡ added (length (part a e out)) 0 v (part a e out) → put_mid a (e - a) out x ≡ added len a v out

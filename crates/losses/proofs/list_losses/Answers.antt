@@ -1,37 +1,22 @@
 use Rattle.lists.proofs.SliceLaws.{tab_filled}
-use Prim.Native.Nat.{◌≤◌}
-use mathlib.Core.Path.{◌≡◌, sym, subst}
+use mathlib.Core.Path.{◌≡◌}
 use native.Mathlib.Omega.{arith}
 use Rattle.lists.proofs.CountLaws.{how_many_most}
-use Rattle.sizes.specs.declared.Sizes.{Sizes}
-use Rattle.sizes.proofs.SizeLaws.{not_sizes_outside}
-use Rattle.archive.specs.Losses.{Losses}
-use Rattle.archive.proofs.GoodArchiveLaws.{good_length}
-use Rattle.archive.proofs.CallLaws.{read_sizes, read_length}
+use Rattle.sizes.proofs.SizeLaws.{ranged}
 use Rattle.losses.proofs.ListLaws.{listed_none, listed_size, listed_skip, listed_room, listed_take, listed_all}
 use Rattle.losses.proofs.list_losses.Goals as goal
 use Rattle.losses.proofs.list_losses.Goals.{then-listed, else-listed}
 
-pub sizes_in-z-requires : goal.sizes_in-z-requires
-sizes_in-z-requires c = omega (arith, good_length _ c.requires.0)
-
-pub marks-filled-requires : goal.marks-filled-requires
-marks-filled-requires c =
-    (not_sizes_outside _ (read_sizes _ c.sizes_in-z.ensures c.requires.0), omega (arith, good_length _ c.requires.0))
-
 pub loop-x-init : goal.loop-x-init
-loop-x-init c =
-    let read = c.sizes_in-z.ensures in (
-      omega arith,
-      (read_sizes _ read c.requires.0).nodes_high,
-      subst (λ (z : Sizes). c.args.k ≤ z.nodes) (sym read) c.requires.1,
-      listed_none _ _ _ c.requires.2 (tab_filled _ 0 (c.fill.ensures.after (λ y e. e))),
-    )
+loop-x-init c = (
+  omega arith,
+  (ranged _ c.args.records.ranges).nodes_high,
+  c.requires.0,
+  listed_none _ _ _ c.requires.1 (tab_filled _ 0 (c.fill.ensures.after (λ y e. e))),
+)
 
 pub listed-requires : goal.listed-requires
-listed-requires c =
-    let read = c.sizes_in-z.ensures in
-    (not_sizes_outside _ (read_sizes _ read c.requires.0), read_length _ read c.requires.0, c.marks-filled.ensures)
+listed-requires c = c.marks-filled.ensures
 
 pub bounds-sets-count : goal.bounds-sets-count
 bounds-sets-count c =
@@ -65,5 +50,4 @@ pub returns : goal.returns
 returns c =
     let l = c.loop-x in
     let end : l.x ≡ 64 = omega (arith, l.invariant.0) in
-    subst (λ (z : Sizes). Losses z c.args.archive.now c.args.k l.count l.sets) c.sizes_in-z.ensures
-    (listed_all _ _ _ l.invariant.1 l.invariant.2 end l.invariant.3)
+    listed_all _ _ _ l.invariant.1 l.invariant.2 end l.invariant.3

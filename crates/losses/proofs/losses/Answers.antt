@@ -1,12 +1,15 @@
 use Prim.Native.Nat.{ℕ, ◌<◌, ◌≤◌}
-use mathlib.Core.Path.{◌≡◌, refl, sym, ap, subst, ◌∙◌}
+use mathlib.Core.Path.{◌≡◌, refl, sym, subst, ◌∙◌}
 use mathlib.Core.Bool.{true, false}
 use lib.Dec.{ltb}
 use native.Mathlib.Omega.{arith}
 use borrow.Author.Tests.{lt-ltb, le-ltb}
 use Rattle.sizes.specs.declared.Sizes.{Sizes}
 use Rattle.answer.proofs.RefusalLaws.{refused, passed, differs_same, differs_other}
+use Rattle.sizes.proofs.SizeLaws.{not_sizes_outside}
+use Rattle.archive.specs.Losses.{Losses}
 use Rattle.archive.proofs.GoodArchiveLaws.{good_length}
+use Rattle.archive.proofs.CallLaws.{read_sizes, read_length}
 use Rattle.losses.proofs.losses.Goals as goal
 
 pub returns-then-bad_archive : goal.returns-then-bad_archive
@@ -31,12 +34,22 @@ returns-then-sets-ne-LIST_LENGTH c =
     let few = not_above c.sizes_in-z.ensures c.if-k-z.false in
     (refl, passed _ _ (cc) ∙ passed _ _ few ∙ refused _ _ (differs_other c.if-sets-ne-LIST_LENGTH.true))
 
+pub invariant_of-records : goal.invariant_of-records
+invariant_of-records c =
+    let good = sym c.bad_archive.ensures ∙ c.if-bad_archive.false in
+    let read = c.sizes_in-z.ensures in
+    record {
+      ranges = not_sizes_outside _ (read_sizes _ read good);
+      long = read_length _ read good;
+      all_bytes = λ i l. (c.type_inv.archive i).fits;
+    }
+
 pub list_losses-requires : goal.list_losses-requires
-list_losses-requires c =
-    let nodes = ap (λ (z : Sizes). z.nodes) c.sizes_in-z.ensures in
-    (cc, omega (arith, nodes, c.if-k-z.false), c.if-sets-ne-LIST_LENGTH.false)
+list_losses-requires c = (c.if-k-z.false, c.if-sets-ne-LIST_LENGTH.false)
 
 pub returns : goal.returns
 returns c =
-    let few = not_above c.sizes_in-z.ensures c.if-k-z.false in
-    (passed _ _ (cc) ∙ passed _ _ few ∙ passed _ _ (differs_same c.if-sets-ne-LIST_LENGTH.false), c.list_losses.ensures)
+    let few = not_above c.sizes_in-z.ensures c.if-k-z.false in (
+      passed _ _ (cc) ∙ passed _ _ few ∙ passed _ _ (differs_same c.if-sets-ne-LIST_LENGTH.false),
+      subst (λ (z : Sizes). Losses z c.args.archive.now c.args.k c.list_losses.result c.list_losses.new.sets) c.sizes_in-z.ensures c.list_losses.ensures,
+    )

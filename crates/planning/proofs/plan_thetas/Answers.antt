@@ -22,12 +22,16 @@ overflow_mul-count c =
     let ok = plannable a.archive.now a.helpers.now a.q a.gammas.now a.rows.now a.thetas.now c.sizes_in-z.ensures c.requires in
     omega (arith, blocks_low _ _ ok.helpers_high ok.q_high)
 
+pub invariant_of-records : goal.invariant_of-records
+invariant_of-records c =
+    let a = c.args in
+    let ok = plannable a.archive.now a.helpers.now a.q a.gammas.now a.rows.now a.thetas.now c.sizes_in-z.ensures c.requires in
+    record { ranges = not_sizes_outside _ ok.sizes; long = ok.long; all_bytes = λ i l. (c.type_inv.archive i).fits }
+
 pub repair_rows-sent-requires : goal.repair_rows-sent-requires
 repair_rows-sent-requires c =
     let a = c.args in
     let ok = plannable a.archive.now a.helpers.now a.q a.gammas.now a.rows.now a.thetas.now c.sizes_in-z.ensures c.requires in (
-      not_sizes_outside _ ok.sizes,
-      ok.long,
       ok.q_low,
       blocks_low _ _ ok.helpers_high ok.q_high,
       ok.present,

@@ -7,14 +7,14 @@ use Rattle.std.proofs.lemmas.Iterator.{YieldsList-from_range}
 use Rattle.std.proofs.lemmas.Iterator.Search.{any_from_yields_List}
 use Rattle.lists.specs.Lists.{at, any_below}
 use Rattle.lists.proofs.ChainLaws.{any_to}
-use Rattle.archive.specs.Layout.{sizes_of, filled_in}
+use Rattle.archive.specs.Layout.{filled_in}
 use Rattle.proving.proofs.any_named_empty.Goals as goal
 
 pub returns : goal.returns
 returns c =
-    let archive = c.args.archive.now in
+    let records = c.args.records in
     let m = c.args.challenge.now in
-    let empty = λ (j : ℕ). not (filled_in (sizes_of archive) archive m.node (at m.places j)) in
+    let empty = λ (j : ℕ). not (filled_in records.z records.bytes.now m.node (at m.places j)) in
     let n = c.count.result in
     any_from_yields_List empty _ _ _ c.any.ensures.ran (YieldsList-from_range 0 n n (cc) (omega arith)) (λ x b q k. search (rules, tests))
     ∙ any_to _ n ∙ ap (λ (k : ℕ). any_below k empty) c.count.ensures.0

@@ -7,7 +7,7 @@ use Rattle.answer.specs.Answer.{Err}
 use Rattle.message.proofs.ChallengeReadLaws.{read_says, read_errs}
 use Rattle.archive.specs.Prove.{prove_for, prove_answer}
 use Rattle.archive.proofs.GoodArchiveLaws.{good_length}
-use Rattle.archive.proofs.CallLaws.{read_sizes}
+use Rattle.archive.proofs.CallLaws.{read_sizes, read_length}
 use Rattle.proving.proofs.prove_check.Goals as goal
 
 pub returns-then-bad_archive : goal.returns-then-bad_archive
@@ -45,8 +45,18 @@ returns-then-not_there c =
     passed _ _ (cc) ∙ passed _ _ m.0 ∙ passed _ _ (listed _ _ (cc))
     ∙ refused _ _ (rw (← c.sizes_in-z.ensures, m.1) (sym c.not_there.ensures ∙ c.if-not_there.true)))
 
+pub invariant_of-records : goal.invariant_of-records
+invariant_of-records c =
+    let read = c.sizes_in-z.ensures in
+    let good = sym c.bad_archive.ensures ∙ c.if-bad_archive.false in
+    record {
+      ranges = not_sizes_outside _ (read_sizes _ read good);
+      long = read_length _ read good;
+      all_bytes = λ i l. (c.type_inv.archive i).fits;
+    }
+
 pub any_named_empty-requires : goal.any_named_empty-requires
-any_named_empty-requires c = (cc, rw (← c.sizes_in-z.ensures) (sym c.not_there.ensures ∙ c.if-not_there.false))
+any_named_empty-requires c = sym c.not_there.ensures ∙ c.if-not_there.false
 
 pub returns-then-any_named_empty : goal.returns-then-any_named_empty
 unfolding prove_answer prove_for
@@ -55,7 +65,7 @@ returns-then-any_named_empty c =
     sym (
     passed _ _ (cc) ∙ passed _ _ m.0 ∙ passed _ _ (listed _ _ (cc))
     ∙ passed _ _ (rw (← c.sizes_in-z.ensures, m.1) (sym c.not_there.ensures ∙ c.if-not_there.false))
-    ∙ refused _ _ (rw m.1 (sym c.any_named_empty.ensures ∙ c.if-any_named_empty.true)))
+    ∙ refused _ _ (rw (← c.sizes_in-z.ensures, m.1) (sym c.any_named_empty.ensures ∙ c.if-any_named_empty.true)))
 
 pub returns : goal.returns
 unfolding prove_answer prove_for
@@ -64,4 +74,4 @@ returns c =
     sym (
     passed _ _ (cc) ∙ passed _ _ m.0 ∙ passed _ _ (listed _ _ (cc))
     ∙ passed _ _ (rw (← c.sizes_in-z.ensures, m.1) (sym c.not_there.ensures ∙ c.if-not_there.false))
-    ∙ passed _ _ (rw m.1 (sym c.any_named_empty.ensures ∙ c.if-any_named_empty.false)))
+    ∙ passed _ _ (rw (← c.sizes_in-z.ensures, m.1) (sym c.any_named_empty.ensures ∙ c.if-any_named_empty.false)))

@@ -1,12 +1,13 @@
 use borrow.Author.Rules.{rules}
 use mathlib.Core.Path.{◌≡◌, ap, sym, ◌∙◌}
 use native.Mathlib.Omega.{arith}
+use Rattle.sizes.proofs.SizeLaws.{not_sizes_outside}
 use Rattle.sizes.specs.declared.Sizes.{Sizes}
 use Rattle.lists.proofs.ArrayLaws.{array_is}
 use Rattle.message.specs.Challenge.{Challenge}
 use Rattle.message.proofs.ChallengeReadLaws.{read_ok, read_says}
 use Rattle.archive.proofs.GoodArchiveLaws.{good_length}
-use Rattle.archive.proofs.CallLaws.{read_sizes}
+use Rattle.archive.proofs.CallLaws.{read_sizes, read_length}
 use Rattle.archive.proofs.ProveCheckLaws.{provable, proved_is}
 use Rattle.proving.proofs.write_response.Goals as goal
 
@@ -18,10 +19,20 @@ pub unwrap-challenge-requires : goal.unwrap-challenge-requires
 unwrap-challenge-requires c =
     read_ok _ c.read.ensures (provable _ _ _ _ _ _ c.requires).formed
 
+pub invariant_of-records : goal.invariant_of-records
+invariant_of-records c =
+    let P = provable _ _ _ _ _ _ c.requires in
+    let read = c.sizes_in-z.ensures in
+    record {
+      ranges = not_sizes_outside _ (read_sizes _ read P.good);
+      long = read_length _ read P.good;
+      all_bytes = λ i l. (c.type_inv.archive i).fits;
+    }
+
 pub named_record-combined-requires : goal.named_record-combined-requires
 named_record-combined-requires c =
     let P = provable _ _ _ _ _ _ c.requires in
-    (P.good, rw (← (read_says _ c.read.ensures c.unwrap-challenge.ensures).1) P.there)
+    rw (c.sizes_in-z.ensures, ← (read_says _ c.read.ensures c.unwrap-challenge.ensures).1) P.there
 
 pub unwrap-requires : goal.unwrap-requires
 unwrap-requires c = c.try_from-2.ensures.0 (provable _ _ _ _ _ _ c.requires).key_length_lem
@@ -58,4 +69,4 @@ returns c =
     let key = array_is _ _ _ _ c.try_from-2.ensures.1 c.unwrap.ensures in
     let seed = array_is _ _ _ _ c.try_from.ensures.1 c.unwrap-seed.ensures in
     proved_is _ _ _ _ _ c.named_record-combined.result (provable _ _ _ _ _ _ c.requires).good c.sizes_in-z.ensures (c.node-node.ensures.0 ∙ ap (λ (m : Challenge). m.node) (sym says))
-    key c.id_in.ensures (rw says c.named_record-combined.ensures) (rw (← seed) c.write_parts.ensures)
+    key c.id_in.ensures (rw (← c.sizes_in-z.ensures, says) c.named_record-combined.ensures) (rw (← seed) c.write_parts.ensures)

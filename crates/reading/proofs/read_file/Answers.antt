@@ -11,24 +11,19 @@ use Rattle.reading.proofs.read_file.Goals as goal
 pub sizes_in-z-requires : goal.sizes_in-z-requires
 sizes_in-z-requires c = omega (arith, good_length _ c.requires.0)
 
-pub marks-requires : goal.marks-requires
-marks-requires c =
-    (not_sizes_outside _ (read_sizes _ c.sizes_in-z.ensures c.requires.0), omega (arith, good_length _ c.requires.0))
-
-pub take-chosen-requires : goal.take-chosen-requires
-take-chosen-requires c =
+pub invariant_of-records : goal.invariant_of-records
+invariant_of-records c =
     let read = c.sizes_in-z.ensures in
-    (not_sizes_outside _ (read_sizes _ read c.requires.0), read_length _ read c.requires.0)
+    record {
+      ranges = not_sizes_outside _ (read_sizes _ read c.requires.0);
+      long = read_length _ read c.requires.0;
+      all_bytes = λ i l. (c.type_inv.archive i).fits;
+    }
 
 pub eliminate-reduced-requires : goal.eliminate-reduced-requires
 eliminate-reduced-requires c =
-    let read = c.sizes_in-z.ensures in
-    let w = c.take-chosen.ensures in (
-      not_sizes_outside _ (read_sizes _ read c.requires.0),
-      read_length _ read c.requires.0,
-      w.choice.fits,
-      λ t h. omega (arith, w.choice.below t h, w.there),
-    )
+    let w = c.take-chosen.ensures in
+    (w.choice.fits, λ t h. omega (arith, w.choice.below t h, w.there))
 
 pub returns-then-reduced-z : goal.returns-then-reduced-z
 returns-then-reduced-z c =
@@ -39,9 +34,7 @@ pub solve-requires : goal.solve-requires
 solve-requires c =
     let w = c.take-chosen.ensures in
     let r = c.eliminate-reduced.ensures in (
-      not_sizes_outside _ (read_sizes _ c.sizes_in-z.ensures c.requires.0),
       λ t h. omega (arith, w.choice.below t (omega (arith, h, c.if-reduced-z.false, r.at_most_rows)), w.there),
-      read_length _ c.sizes_in-z.ensures c.requires.0,
       c.requires.1 ∙ sym (ap file_length c.sizes_in-z.ensures),
     )
 

@@ -1,57 +1,47 @@
 use Rattle.lists.proofs.SliceLaws.{tab_filled}
-use mathlib.Core.Path.{sym, ap, ◌∙◌}
+use mathlib.Core.Path.{refl, sym, ◌∙◌}
 use native.Mathlib.Omega.{arith}
 use Rattle.lists.proofs.ListingLaws.{listing_size, listing_none, listing_skip, listing_take}
-use Rattle.sizes.specs.declared.Sizes.{Sizes}
-use Rattle.archive.specs.Layout.{sizes_of}
 use Rattle.sizes.proofs.PlaceLaws.{count_low}
-use Rattle.archive.proofs.GoodArchiveLaws.{good_sizes, good_length}
-use Rattle.archive.proofs.ListingLaws.{count_read, parts_low, code_is, listing_all}
+use Rattle.sizes.proofs.SizeLaws.{ranged}
+use Rattle.archive.proofs.ListingLaws.{parts_low, code_is, listing_all}
 use Rattle.archive.proofs.listing.list_filled.Goals as goal
 use Rattle.archive.proofs.listing.list_filled.Goals.{then-marked, else-marked}
 
-pub sizes_in-z-requires : goal.sizes_in-z-requires
-sizes_in-z-requires c = omega (arith, good_length _ c.requires.0)
-
 pub overflow_mul-k-end : goal.overflow_mul-k-end
 overflow_mul-k-end c =
-    omega (arith, count_low _ (good_sizes _ c.requires.0), count_read c.sizes_in-z.ensures)
+    omega (arith, count_low _ (ranged _ c.args.records.ranges))
 
 pub loop-k-init : goal.loop-k-init
 loop-k-init c = (
   omega arith,
-  ap (λ (z : Sizes). z.places) c.sizes_in-z.ensures,
-  count_read c.sizes_in-z.ensures,
-  listing_none _ _ _ c.requires.1 (tab_filled _ 0 (c.fill.ensures.after (λ y e. e))),
+  refl,
+  refl,
+  listing_none _ _ _ c.requires (tab_filled _ 0 (c.fill.ensures.after (λ y e. e))),
   omega arith,
 )
 
 pub marked-requires : goal.marked-requires
 marked-requires c =
-    let good = c.requires.0 in
-    (omega (arith, count_low _ (good_sizes _ good), c.loop-k.invariant.2), omega (arith, good_length _ good))
+    (omega (arith, count_low _ (ranged _ c.args.records.ranges), c.loop-k.invariant.2), omega (arith, c.args.records.long))
 
 pub nonzero_div-list : goal.nonzero_div-list
 nonzero_div-list c =
-    let good = c.requires.0 in
-    omega (arith, (good_sizes _ good).places_low, c.loop-k.invariant.1)
+    omega (arith, (ranged _ c.args.records.ranges).places_low, c.loop-k.invariant.1)
 
 pub overflow_mul-list : goal.overflow_mul-list
 overflow_mul-list c =
-    let good = c.requires.0 in
     let l = c.loop-k in
-    omega (arith, parts_low _ (good_sizes _ good) l.k l.invariant.1 (omega arith))
+    omega (arith, parts_low _ (ranged _ c.args.records.ranges) l.k l.invariant.1 (omega arith))
 
 pub nonzero_rem-list : goal.nonzero_rem-list
 nonzero_rem-list c =
-    let good = c.requires.0 in
-    omega (arith, (good_sizes _ good).places_low, c.loop-k.invariant.1)
+    omega (arith, (ranged _ c.args.records.ranges).places_low, c.loop-k.invariant.1)
 
 pub overflow_add-list : goal.overflow_add-list
 overflow_add-list c =
-    let good = c.requires.0 in
     let l = c.loop-k in
-    omega (arith, parts_low _ (good_sizes _ good) l.k l.invariant.1 (omega arith))
+    omega (arith, parts_low _ (ranged _ c.args.records.ranges) l.k l.invariant.1 (omega arith))
 
 pub bounds-list-count : goal.bounds-list-count
 bounds-list-count c =
@@ -60,13 +50,12 @@ bounds-list-count c =
 
 pub overflow_add-count : goal.overflow_add-count
 overflow_add-count c =
-    let good = c.requires.0 in
     let i = c.loop-k.invariant in
-    omega (arith, i.4, count_low _ (good_sizes _ good))
+    omega (arith, i.4, count_low _ (ranged _ c.args.records.ranges))
 
 pub loop-k-preserved : goal.loop-k-preserved
 loop-k-preserved c =
-    let R = good_sizes _ c.requires.0 in
+    let R = ranged _ c.args.records.ranges in
     let i = c.loop-k.invariant in
     let mark = c.marked.ensures in (
       omega arith,
@@ -82,6 +71,6 @@ loop-k-preserved c =
 pub returns : goal.returns
 returns c =
     record {
-      number = (listing_all (sizes_of c.args.archive.now) _ (omega arith) c.loop-k.invariant.3).0;
-      output = (listing_all (sizes_of c.args.archive.now) _ (omega arith) c.loop-k.invariant.3).1;
+      number = (listing_all (c.args.records.z) _ (omega arith) c.loop-k.invariant.3).0;
+      output = (listing_all (c.args.records.z) _ (omega arith) c.loop-k.invariant.3).1;
     }

@@ -43,10 +43,10 @@ returns-then-all_zero c =
     let row = named _ _ _ (read_says _ c.read.ensures c.unwrap-challenge.ensures).1 c.named_row-row.ensures in
     verdict_unproved _ _ _ _ _ _ c.requires row c.all_zero.ensures c.if-all_zero.true
 
-pub any_fails-requires : goal.any_fails-requires
-any_fails-requires c =
+pub invariant_of-response : goal.invariant_of-response
+invariant_of-response c =
     let j = verdict_tells _ _ _ _ _ _ c.requires in
-    (j.sized, j.response_length_lem)
+    record { ranges = j.sized; long = j.response_length_lem }
 
 pub returns-then-any_fails : goal.returns-then-any_fails
 returns-then-any_fails c =

@@ -1,5 +1,5 @@
-use Rattle.std.proofs.Common.{◌≡◌, arith, rules}
-use Rattle.lists.proofs.PutLaws.{put_none}
+use Rattle.std.proofs.Common.{◌≡◌, ◌*◌, length, refl, ◌∙◌, arith, rules}
+use Rattle.lists.proofs.PutLaws.{put_none, put_all}
 use Rattle.keystream.proofs.FillLaws.{state_none, state_more, block_more, blocks_done}
 use Rattle.keystream.proofs.chacha.fill.Goals as goal
 
@@ -15,5 +15,6 @@ loop-j-preserved c =
 
 pub returns : goal.returns
 returns c =
-    let e : c.loop-j.j ≡ c.args.count = omega arith in
-    blocks_done _ _ _ _ c.start_state-w.ensures (rw e at c.loop-j.invariant.1)
+    let d = c.args.out.now in
+    let e : 64 * c.loop-j.j ≡ length d = omega (arith, c.requires) in
+    blocks_done _ _ _ _ c.start_state-w.ensures (rw e at c.loop-j.invariant.1) ∙ put_all (length d) _ d refl

@@ -13,35 +13,35 @@ pub loop-l-init : goal.loop-l-init
 loop-l-init c = mixed_none _ _ _ _ _
 
 pub overflow_add-first : goal.overflow_add-first
-overflow_add-first c = omega (arith, c.requires.2, count_low _ (ranged _ c.requires.0))
+overflow_add-first c = omega (arith, c.requires.0, count_low _ (ranged _ c.args.records.ranges))
 
 pub record_start-requires : goal.record_start-requires
 record_start-requires c =
-    (c.requires.0, omega (arith, c.requires.2, count_low _ (ranged _ c.requires.0)))
+    (c.args.records.ranges, omega (arith, c.requires.0, count_low _ (ranged _ c.args.records.ranges)))
 
 pub overflow_add-start : goal.overflow_add-start
 overflow_add-start c =
-    let R = ranged _ c.requires.0 in
-    omega (arith, row_low c.args.z _ R (omega (arith, c.requires.2, count_low _ R)) c.record_start.ensures)
+    let R = ranged _ c.args.records.ranges in
+    omega (arith, row_low c.args.records.z _ R (omega (arith, c.requires.0, count_low _ R)) c.record_start.ensures)
 
 pub overflow_add-start-in-loop-l : goal.overflow_add-start-in-loop-l
 overflow_add-start-in-loop-l c =
-    let R = ranged _ c.requires.0 in
-    omega (arith, R.m_high, row_low c.args.z _ R (omega (arith, c.requires.2, count_low _ R)) c.record_start.ensures)
+    let R = ranged _ c.args.records.ranges in
+    omega (arith, R.m_high, row_low c.args.records.z _ R (omega (arith, c.requires.0, count_low _ R)) c.record_start.ensures)
 
 pub slice_bounds-add_multiple-end : goal.slice_bounds-add_multiple-end
-slice_bounds-add_multiple-end c = row_fits c.args.z _ (omega (arith, c.requires.2)) c.record_start.ensures c.requires.1
+slice_bounds-add_multiple-end c = row_fits c.args.records.z _ (omega (arith, c.requires.0)) c.record_start.ensures c.args.records.long
 
 pub add_multiple-requires : goal.add_multiple-requires
 add_multiple-requires c =
-    let start = c.record_start.result + c.args.z.n in
-    length_part start (start + c.args.z.m) c.args.archive.now (row_fits c.args.z _ (omega (arith, c.requires.2)) c.record_start.ensures c.requires.1)
-    ∙ omega (arith, c.requires.3)
+    let start = c.record_start.result + c.args.records.z.n in
+    length_part start (start + c.args.records.z.m) c.args.records.bytes.now (row_fits c.args.records.z _ (omega (arith, c.requires.0)) c.record_start.ensures c.args.records.long)
+    ∙ omega (arith, c.requires.1)
 
 pub loop-l-preserved : goal.loop-l-preserved
 loop-l-preserved c =
     let a = c.args in
-    row_added a.z a.archive.now a.gammas.now a.out.now a.first c.loop-l.l c.requires.3
+    row_added a.records.z a.records.bytes.now a.gammas.now a.out.now a.first c.loop-l.l c.requires.1
     c.record_start.ensures c.loop-l.invariant c.add_multiple.ensures
 
 pub returns : goal.returns

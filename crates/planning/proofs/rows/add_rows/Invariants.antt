@@ -7,4 +7,4 @@ use Rattle.planning.proofs.rows.add_rows.Given as goal
 
 -- The rows of the first l places have been added. Assumes nothing.
 abbrev pub invariant-loop-l : goal.invariant-loop-l
-invariant-loop-l l = l.out ≡ added l.z.m 0 (mixed l.l (at l.gammas) (λ j. row_in l.z l.archive (l.first + j))) l.initial.out
+invariant-loop-l l = l.out ≡ added l.z.m 0 (mixed l.l (at l.gammas) (λ j. row_in l.z l.records.bytes.now (l.first + j))) l.initial.out

@@ -7,4 +7,4 @@ use Rattle.planning.proofs.rows.repair_rows.Given as goal
 -- The loop has made the first t rows. Assumes nothing.
 abbrev pub invariant-loop-t : goal.invariant-loop-t
 invariant-loop-t l =
-    l.out ≡ grid l.t l.z.m 0 (repair_row l.z l.archive l.helpers l.q l.gammas) (replicate 640 0)
+    l.out ≡ grid l.t l.z.m 0 (repair_row l.z l.records.bytes.now l.helpers l.q l.gammas) (replicate 640 0)

@@ -4,4 +4,4 @@ use Rattle.reading.proofs.choosing.take.Goals as goal
 
 pub returns : goal.returns
 returns c =
-    chosen_in c.args.z c.args.archive.now _ _ c.rows_in.ensures (offered c.args.candidates) c.choose.ensures
+    chosen_in c.args.records.z c.args.records.bytes.now _ _ c.rows_in.ensures (offered c.args.candidates) c.choose.ensures

@@ -10,4 +10,4 @@ use Rattle.reading.proofs.solving.solve.Given as goal
 abbrev pub invariant-loop-i : goal.invariant-loop-i
 invariant-loop-i l =
     (l.i ≤ l.i-end) × (length l.file ≡ length l.initial.file)
-    × (l.file ≡ grid l.i l.len 0 (λ j. mixed l.z.m (cells l.combinations j) (λ t. byte_in l.z l.archive (at l.places t))) l.initial.file)
+    × (l.file ≡ grid l.i l.len 0 (λ j. mixed l.records.z.m (cells l.combinations j) (λ t. byte_in l.records.z l.records.bytes.now (at l.places t))) l.initial.file)
