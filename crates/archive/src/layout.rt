@@ -63,14 +63,12 @@ pub fn marked(s: &[u8], k: usize) -> bool
 }
 
 // Whether a place of a node is filled; where `filled`, the mark that is looked for, is false, whether one is empty.
-pub fn any_place(records: Records<'_>, node: usize, filled: bool) -> bool
-    requires { node < records.z.nodes }
-    ensures { let z = records.entry.z in
-        let archive = records.entry.bytes.now in
+pub fn any_place(archive: &[u8], z: Sizes, node: usize, filled: bool) -> bool
+    requires { (sizes_outside z ≡ false) × (node < z.nodes) × (header_length ≤ length archive.now) }
+    ensures { let archive = archive.entry.now in
         result ≡ any_below z.places (λ k. pick filled (filled_in z archive node k) (not (filled_in z archive node k))) }
 {
-    let places = records.z.places;
-    (0..places).any(|k| marked(records.bytes, node * places + k) == filled)
+    (0..z.places).any(|k| marked(archive, node * z.places + k) == filled)
 }
 
 // Whether a mark is set that belongs to none of the first `count` places.

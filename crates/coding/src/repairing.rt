@@ -2,16 +2,17 @@
 ghost use Rattle.std.specs.Prelude.{◌≡◌, false, not, ◌+◌, ◌*◌, ◌<◌, ◌≤◌, length, leb};
 ghost use Rattle.lists.specs.Lists.{at, any_below};
 ghost use Rattle.answer.specs.Refusals.{Passed};
-ghost use Rattle.sizes.specs.Lengths.{record_length, record_start};
+ghost use Rattle.sizes.specs.Sizes.{sizes_outside};
+ghost use Rattle.sizes.specs.Lengths.{record_length, record_start, header_length};
 ghost use Rattle.archive.specs.Layout.{sizes_of, id_of, filled_in, bad_archive};
 ghost use Rattle.archive.specs.Calls as Calls;
 ghost use Rattle.archive.specs.Calls.{archive_answer, effect_for, archive_after, scratch_after};
 ghost use Rattle.archive.specs.Repair.{scratch_made};
 
 use answer::Refusal;
-use archive::{Records, any_place, bad_archive, set_marks, sizes_in};
+use archive::{any_place, bad_archive, set_marks, sizes_in};
 use field::Tables;
-use sizes::{record_length, record_start};
+use sizes::{Sizes, record_length, record_start};
 
 // Whether a helper is no node.
 pub fn any_missing(helpers: &[u8], nodes: usize) -> bool
@@ -21,24 +22,24 @@ pub fn any_missing(helpers: &[u8], nodes: usize) -> bool
 }
 
 // Whether a place of this helper is empty.
-fn any_empty(records: Records<'_>, helper: u8) -> bool
-    requires { helper < records.z.nodes }
-    ensures { let z = records.entry.z in
-        let archive = records.entry.bytes.now in
+fn any_empty(archive: &[u8], z: Sizes, helper: u8) -> bool
+    requires { (sizes_outside z ≡ false) × (helper < z.nodes) × (header_length ≤ length archive.now) }
+    ensures { let archive = archive.entry.now in
         result ≡ any_below z.places (λ l. not (filled_in z archive helper l)) }
 {
-    any_place(records, usize::from(helper), false)
+    any_place(archive, z, usize::from(helper), false)
 }
 
 // Whether a place of a helper is empty.
-pub fn any_helper_empty(records: Records<'_>, helpers: &[u8]) -> bool
-    requires { any_below (length helpers.now) (λ i. leb records.z.nodes (at helpers.now i)) ≡ false }
+pub fn any_helper_empty(archive: &[u8], z: Sizes, helpers: &[u8]) -> bool
+    requires { (sizes_outside z ≡ false)
+        × (header_length ≤ length archive.now)
+        × (any_below (length helpers.now) (λ i. leb z.nodes (at helpers.now i)) ≡ false) }
     ensures { let helpers = helpers.entry.now in
-        let z = records.entry.z in
-        let archive = records.entry.bytes.now in
+        let archive = archive.entry.now in
         result ≡ any_below (length helpers) (λ i. any_below z.places (λ l. not (filled_in z archive (at helpers i) l))) }
 {
-    helpers.iter().any(|h| any_empty(records, *h))
+    helpers.iter().any(|h| any_empty(archive, z, *h))
 }
 
 // The first refusal of Repair.
@@ -76,11 +77,10 @@ fn repair_check(
     if (z.nodes <= target) | any_missing(helpers, z.nodes) {
         return Err(Refusal::NoSuchPlace);
     }
-    let records = Records { z, bytes: archive };
-    if any_place(records, target, true) {
+    if any_place(archive, z, target, true) {
         return Err(Refusal::PlaceFilled);
     }
-    if any_helper_empty(records, helpers) {
+    if any_helper_empty(archive, z, helpers) {
         return Err(Refusal::PlaceEmpty);
     }
     Ok(())

@@ -7,7 +7,7 @@ ghost use Rattle.archive.specs.Layout.{sizes_of, mark_at, with_marks};
 ghost use Rattle.archive.specs.Gather.{other_archive, gather_answer, gathered, gather_after};
 
 use answer::Refusal;
-use archive::{Records, bad_archive, sizes_in};
+use archive::{bad_archive, sizes_in};
 
 // Whether a byte ahead of the marks differs: layout, sizes, number of tags or id.
 fn other_archive(archive: &[u8], share: &[u8]) -> bool
@@ -34,8 +34,7 @@ fn gather_check(archive: &[u8], share: &[u8], node: usize) -> Result<(), Refusal
     if z.nodes <= node {
         return Err(Refusal::NoSuchPlace);
     }
-    let records = Records { z, bytes: archive };
-    if archive::any_place(records, node, true) {
+    if archive::any_place(archive, z, node, true) {
         return Err(Refusal::PlaceFilled);
     }
     Ok(())

@@ -64,7 +64,7 @@ fn list_losses(records: Records<'_>, k: usize, sets: &mut [u8]) -> usize
     requires { (k ≤ records.z.nodes) × (length sets.old ≡ list_length) }
     ensures { let records = records.entry in Losses records.z records.bytes.now k result sets.new }
 {
-    let filled = reading::marks(records);
+    let filled = reading::marks(records.bytes, records.z);
     sets.fill(0);
     let mut count = 0;
     // by number: a set is made of it, and the list moves on only at one that hurts

@@ -46,8 +46,7 @@ fn plan_check(
     if coding::any_missing(helpers, z.nodes) {
         return Err(Refusal::NoSuchPlace);
     }
-    let records = Records { z, bytes: archive };
-    if coding::any_helper_empty(records, helpers) {
+    if coding::any_helper_empty(archive, z, helpers) {
         return Err(Refusal::PlaceEmpty);
     }
     Ok(())

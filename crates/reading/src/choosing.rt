@@ -1,6 +1,7 @@
 // The rows of an archive, by node and then place: which of them may be taken, those of filled places; which are; and the elimination of these.
-ghost use Rattle.std.specs.Prelude.{◌≡◌, ℕ, ◌<◌, ◌≤◌};
-ghost use Rattle.sizes.specs.Lengths.{place_count};
+ghost use Rattle.std.specs.Prelude.{◌≡◌, false, ℕ, ◌<◌, ◌≤◌, length};
+ghost use Rattle.sizes.specs.Sizes.{sizes_outside};
+ghost use Rattle.sizes.specs.Lengths.{header_length, place_count};
 ghost use Rattle.lists.specs.Lists.{at};
 ghost use Rattle.linear.specs.PrivateElimination.{cells, Reduces};
 ghost use Rattle.choice.specs.PrivateChoice.{offered, listed_rows, WholeChoice};
@@ -11,6 +12,7 @@ ghost use Rattle.reading.specs.PrivateRows.{RowsIn};
 use archive::Records;
 use choice::{Chosen, Rows};
 use linear::Reduced;
+use sizes::Sizes;
 use std::array;
 
 // Where the rows of an archive stand.
@@ -28,11 +30,12 @@ fn rows_in(records: Records<'_>) -> Rows<'_>
 }
 
 // Which places are filled.
-pub fn marks(records: Records<'_>) -> [bool; 48]
-    ensures { let records = records.entry in
-        ((k : ℕ) → k < place_count records.z → offered result k ≡ mark_at records.bytes.now k) }
+pub fn marks(archive: &[u8], z: Sizes) -> [bool; 48]
+    requires { (sizes_outside z ≡ false) × (header_length ≤ length archive.now) }
+    ensures { let archive = archive.entry.now in
+        ((k : ℕ) → k < place_count z → offered result k ≡ mark_at archive k) }
 {
-    array::from_fn(|k| archive::marked(records.bytes, k))
+    array::from_fn(|k| archive::marked(archive, k))
 }
 
 // The places taken among the candidates.

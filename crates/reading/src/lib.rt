@@ -21,7 +21,7 @@ fn read_file(archive: &[u8], file: &mut [u8]) -> Result<usize, Refusal>
 {
     let z = archive::sizes_in(archive);
     let records = Records { z, bytes: archive };
-    let chosen = take(records, marks(records));
+    let chosen = take(records, marks(archive, z));
     let reduced = eliminate(records, chosen);
     if reduced.rank < z.m {
         return Err(Refusal::Unreadable);

@@ -7,6 +7,11 @@ use Rattle.losses.proofs.ListLaws.{listed_none, listed_size, listed_skip, listed
 use Rattle.losses.proofs.list_losses.Goals as goal
 use Rattle.losses.proofs.list_losses.Goals.{then-listed, else-listed}
 
+pub marks-filled-requires : goal.marks-filled-requires
+marks-filled-requires c =
+    let records = c.args.records in
+    (records.ranges, omega (arith, records.long))
+
 pub loop-x-init : goal.loop-x-init
 loop-x-init c = (
   omega arith,

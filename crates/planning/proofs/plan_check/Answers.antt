@@ -51,18 +51,13 @@ returns-then-any_missing c =
     (sym (passed _ _ (found c.outside.ensures c.outside-2.ensures c.if-outside.false)
     ∙ passed _ _ (listed _ _ c.if-gammas-count.false) ∙ refused _ _ (sym c.any_missing.ensures ∙ c.if-any_missing.true)))
 
-pub invariant_of-records : goal.invariant_of-records
-invariant_of-records c =
-    let read = c.sizes_in-z.ensures in
-    let good = sym c.bad_archive.ensures ∙ c.if-bad_archive.false in
-    record {
-      ranges = not_sizes_outside _ (read_sizes _ read good);
-      long = read_length _ read good;
-      all_bytes = λ i l. (c.type_inv.archive i).fits;
-    }
-
 pub any_helper_empty-requires : goal.any_helper_empty-requires
-any_helper_empty-requires c = sym c.any_missing.ensures ∙ c.if-any_missing.false
+any_helper_empty-requires c =
+    let good = sym c.bad_archive.ensures ∙ c.if-bad_archive.false in (
+      not_sizes_outside _ (read_sizes _ c.sizes_in-z.ensures good),
+      omega (arith, read_length _ c.sizes_in-z.ensures good),
+      sym c.any_missing.ensures ∙ c.if-any_missing.false,
+    )
 
 pub returns-then-any_helper_empty : goal.returns-then-any_helper_empty
 returns-then-any_helper_empty c =

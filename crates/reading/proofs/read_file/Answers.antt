@@ -20,6 +20,10 @@ invariant_of-records c =
       all_bytes = λ i l. (c.type_inv.archive i).fits;
     }
 
+pub marks-requires : goal.marks-requires
+marks-requires c =
+    (not_sizes_outside _ (read_sizes _ c.sizes_in-z.ensures c.requires.0), omega (arith, good_length _ c.requires.0))
+
 pub eliminate-reduced-requires : goal.eliminate-reduced-requires
 eliminate-reduced-requires c =
     let w = c.take-chosen.ensures in

@@ -21,12 +21,12 @@ tested false false = refl
 
 pub any-requires-clause-callable : goal.any-requires-clause-callable
 any-requires-clause-callable c = serves_from_Range (λ k q called. search (rules, tests)) (λ k l h.
-    let low = number_mark _ (ranged _ c.args.records.ranges) _ k c.requires h in
+    let low = number_mark _ (ranged _ c.requires.0) _ k c.requires.1 h in
     grind (serving, low))
 
 pub returns : goal.returns
 returns c =
     let filled = c.args.filled in
-    let mark = filled_in c.args.records.z c.args.records.bytes.now c.args.node in
+    let mark = filled_in c.args.z c.args.archive.now c.args.node in
     any_from_zero _ _ (λ k. beq (mark k) filled) (λ k b q called. search (rules, tests)) _ _ _ refl c.any.ensures.ran
-    ∙ any_same c.args.records.z.places (λ k. beq (mark k) filled) (λ k. pick filled (mark k) (not (mark k))) (λ k l. tested (mark k) filled)
+    ∙ any_same c.args.z.places (λ k. beq (mark k) filled) (λ k. pick filled (mark k) (not (mark k))) (λ k l. tested (mark k) filled)

@@ -19,12 +19,12 @@ any-requires-clause-callable c =
     let helpers = c.args.helpers.now in
     serves_from_places (YieldsList-from_slice helpers cc) (λ x q called. search (rules, tests)) (λ x k h is.
     let node : x.now ≡ at helpers k = is ∙ get_or_default helpers k x.now 0 h in
-    let low : x.now < c.args.records.z.nodes = rw node (leb-false _ _ (any_below_lem _ _ c.requires k h)) in
+    let low : x.now < c.args.z.nodes = rw node (leb-false _ _ (any_below_lem _ _ c.requires.2 k h)) in
     grind (serving, low))
 
 pub returns : goal.returns
 returns c =
     let a = c.args in
-    let empty : ℕ → Bool = λ node. any_below a.records.z.places (λ l. not (filled_in a.records.z a.records.bytes.now node l)) in
+    let empty : ℕ → Bool = λ node. any_below a.z.places (λ l. not (filled_in a.z a.archive.now node l)) in
     any_from_yields_List empty _ _ _ c.any.ensures.ran (YieldsList-from_slice a.helpers.now cc) (λ x b q k. search (rules, tests))
     ∙ any_of_list empty a.helpers.now

@@ -57,7 +57,10 @@ unfolding answer_for
 returns-then-z-target c = answered _ c.sizes_in-z.ensures (cc) _ (sym (passed _ _ (listed _ _ (cc)) ∙ passed _ _ (listed _ _ (cc)) ∙ refused _ _ (listed _ _ (cc))))
 
 pub any_place-requires : goal.any_place-requires
-any_place-requires c = leb-false _ _ (none_at _ 0 (listed _ (_ ∷ []) c.if-z-target.false))
+any_place-requires c =
+    let read = c.sizes_in-z.ensures in
+    let target = leb-false _ _ (none_at _ 0 (listed _ (_ ∷ []) c.if-z-target.false)) in
+    (not_sizes_outside _ (read_sizes _ read (cc)), target, omega (arith, read_length _ read (cc)))
 
 pub returns-then-any_place : goal.returns-then-any_place
 unfolding answer_for
@@ -65,19 +68,11 @@ returns-then-any_place c =
     answered _ c.sizes_in-z.ensures (cc) _
     (sym (passed _ _ (listed _ _ (cc)) ∙ passed _ _ (listed _ _ (cc)) ∙ passed _ _ (listed _ _ (cc)) ∙ refused _ _ (sym c.any_place.ensures ∙ c.if-any_place.true)))
 
-pub invariant_of-records : goal.invariant_of-records
-invariant_of-records c =
-    let read = c.sizes_in-z.ensures in
-    let good = sym c.bad_archive.ensures ∙ c.if-bad_archive.false in
-    record {
-      ranges = not_sizes_outside _ (read_sizes _ read good);
-      long = read_length _ read good;
-      all_bytes = λ i l. (c.type_inv.archive i).fits;
-    }
-
 pub any_helper_empty-requires : goal.any_helper_empty-requires
 any_helper_empty-requires c =
-    sym c.any_missing.ensures ∙ (or_false (leb c.sizes_in-z.result.nodes c.args.target) c.any_missing.result c.if-z-target.false).1
+    let read = c.sizes_in-z.ensures in
+    let present = sym c.any_missing.ensures ∙ (or_false (leb c.sizes_in-z.result.nodes c.args.target) c.any_missing.result c.if-z-target.false).1 in
+    (not_sizes_outside _ (read_sizes _ read (cc)), omega (arith, read_length _ read (cc)), present)
 
 pub returns-then-any_helper_empty : goal.returns-then-any_helper_empty
 unfolding answer_for

@@ -36,18 +36,10 @@ pub returns-then-z-node : goal.returns-then-z-node
 returns-then-z-node c =
     gather_answered _ _ c.sizes_in-z.ensures (cc) (cc) (cc) _ (sym (refused _ _ (le-leb _ _ c.if-z-node.true)))
 
-pub invariant_of-records : goal.invariant_of-records
-invariant_of-records c =
-    let read = c.sizes_in-z.ensures in
-    let good = sym c.bad_archive.ensures ∙ c.if-bad_archive.false in
-    record {
-      ranges = not_sizes_outside _ (read_sizes _ read good);
-      long = read_length _ read good;
-      all_bytes = λ i l. (c.type_inv.archive i).fits;
-    }
-
 pub any_place-requires : goal.any_place-requires
-any_place-requires c = c.if-z-node.false
+any_place-requires c =
+    let read = c.sizes_in-z.ensures in
+    (not_sizes_outside _ (read_sizes _ read (cc)), c.if-z-node.false, omega (arith, read_length _ read (cc)))
 
 pub returns-then-any_place : goal.returns-then-any_place
 returns-then-any_place c =

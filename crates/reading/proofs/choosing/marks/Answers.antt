@@ -10,5 +10,5 @@ use Rattle.reading.proofs.choosing.marks.Goals as goal
 pub returns : goal.returns
 returns c =
     λ k h.
-    array_at _ _ (mark_at c.args.records.bytes.now) 48 (λ k y q l called. search rules) false c.from_fn.ensures.items k
-    (omega (arith, h, count_low _ (ranged _ c.args.records.ranges)))
+    array_at _ _ (mark_at c.args.archive.now) 48 (λ k y q l called. search rules) false c.from_fn.ensures.items k
+    (omega (arith, h, count_low c.args.z (ranged c.args.z c.requires.0)))
