@@ -2,3 +2,4 @@ pub mod ReducedLaws
 pub mod GatherLaws
 pub mod ChoiceLaws
 pub mod WholeLaws
+pub mod MarkLaws

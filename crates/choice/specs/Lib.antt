@@ -1,3 +1,4 @@
 pub mod PrivateReduced
 pub mod PrivateStanding
+pub mod PrivateMarks
 pub mod PrivateChoice

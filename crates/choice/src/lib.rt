@@ -1,6 +1,7 @@
 // The greedy choice: of the candidates among some rows, in order, each that is independent of those taken before it.
 #![tactic(auto)]
 
+mod candidates;
 mod reducing;
 mod rows;
 
@@ -10,6 +11,7 @@ ghost use Rattle.linear.specs.PrivateRows.{kept};
 ghost use Rattle.linear.specs.PrivateElimination.{cells};
 ghost use Rattle.choice.specs.PrivateChoice.{row_at, offered, Progress, WholeChoice};
 
+pub use candidates::Candidates;
 use field::Tables;
 use linear::Row;
 use reducing::{cleared, extended, pivot};
@@ -69,10 +71,11 @@ impl<'a> Rows<'a> {
     }
 
     // The rows taken, up to the m-th.
-    pub fn choose(&self, candidates: [bool; 48]) -> Chosen
+    pub fn choose<C: Candidates>(&self, candidates: C) -> Chosen
         ensures { let rows = self.now in
-            WholeChoice rows.count rows.m (row_at rows) (offered candidates) result }
+            WholeChoice rows.count rows.m (row_at rows) (offered (C.marked candidates)) result }
     {
+        let marks = candidates.marks();
         let tables = Tables::new();
         let mut c = Chosen {
             count: 0,
@@ -85,7 +88,7 @@ impl<'a> Rows<'a> {
             if c.count == self.m {
                 return c;
             }
-            c = consult(&tables, self, candidates, &mut reduced, c, k);
+            c = consult(&tables, self, marks, &mut reduced, c, k);
         }
         c
     }

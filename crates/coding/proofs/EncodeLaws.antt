@@ -5,13 +5,16 @@ use mathlib.Core.Bool.{true, false}
 use mathlib.Core.List.{List, [], ◌∷◌, ◌++◌}
 use native.Mathlib.Omega.{arith}
 use lib.Dec.{leb}
-use lib.ListN.{length}
+use lib.ListN.{length, take}
+use lib.Seq.{length-take-le}
 use borrow.Author.Tests.{lt-ltb, le-ltb, leb-false}
-use borrow.Rule.Slice.PartMut.{put_mid}
+use borrow.Rule.Slice.PartMut.{mid_of, put_mid}
+use Rattle.std.proofs.lemmas.List.{get_or-take}
 use Rattle.lists.specs.Lists.{at, tab, put, grid, over, any_of}
-use Rattle.lists.proofs.TabLaws.{length_tab, tab_at, elements}
+use Rattle.lists.proofs.TabLaws.{length_tab, tab_at, is_tab, elements}
+use Rattle.lists.proofs.PutLaws.{length_put, put_at, put_below, put_above, is_put}
 use Rattle.lists.proofs.AnyLaws.{none_at}
-use Rattle.lists.proofs.SliceLaws.{put_written}
+use Rattle.lists.proofs.SliceLaws.{length_part, part_at, put_written}
 use Rattle.answer.specs.Refusals.{Passed}
 use Rattle.answer.proofs.RefusalLaws.{accepted, same}
 use Rattle.field.proofs.SumLaws.{sum_same}
@@ -151,7 +154,27 @@ record_written z file padding row key id {w} {r} count blocks made =
     product_same len (at w) block (key_vector key id k) (λ e l. ap (λ (x : List ℕ). at x e) blocks ∙ tab_at len block e l)
     ∙ sym (with_tags_tag len (key_vector key id) block k))
 
+-- a block, and its tags behind it
+abbrev pub tagged : (z : Sizes) (key id block : List ℕ) → List ℕ
+tagged z key id block = block ++ tab z.tags (λ k. product (length block) (at block) (key_vector key id k))
+
 -- ---- the archive
+
+-- the front of a part, after n values were put there
+front_part : (n len start : ℕ) (f : ℕ → ℕ) (u : List ℕ) → n ≤ len → start + len ≤ length u → take n (mid_of start len (put n start f u)) ≡ tab n f
+front_part n len start f u h fits =
+    let long : start + len ≤ length (put n start f u) = omega (arith, fits, length_put n start f u) in
+    let size : length (mid_of start len (put n start f u)) ≡ len = length_part start len _ long in
+    is_tab n f _ (length-take-le n _ (omega (arith, size)))
+    (λ i l. get_or-take n _ i 0 l ∙ part_at start len _ i (omega arith) ∙ put_at n start f u i l (omega arith))
+
+-- fewer values that were put there before are gone
+put_over : (n m start : ℕ) (f g : ℕ → ℕ) (d : List ℕ) → m ≤ n → start + n ≤ length d → put n start f (put m start g d) ≡ put n start f d
+put_over n m start f g d h fits =
+    is_put n start f d (put n start f (put m start g d)) (length_put n start f _ ∙ length_put m start g d) fits
+    (λ i l. put_at n start f _ i l (omega (arith, length_put m start g d)))
+    (λ k l. put_below n start f _ k l ∙ put_below m start g d k l)
+    (λ k l. put_above n start f _ k l ∙ put_above m start g d k (omega arith))
 
 -- marks, then the record
 encode_effect : (z : Sizes) (s : List ℕ) (node place : ℕ) (file padding key row : List ℕ)
@@ -169,13 +192,36 @@ module _ (z : Sizes) (s : List ℕ) (node place : ℕ) (file padding key row : L
   pub part_fits : start + len ≤ length s
   part_fits = omega (arith, ok.fits)
 
-  -- the steps of the code: the sizes read, the marks set, the record written to its part
-  pub place_filled : {i u w : List ℕ} {k : ℕ} → z ≡ sizes_of s → i ≡ id_of s → u ≡ with_marks (over (place_number z node place) 1 (λ i. true) (mark_at s)) s → k ≡ len
-      → w ≡ tab (record_length z) (coded_record z (key_vector key i) file padding (at row))
-      → put_mid start k u w ≡ effect_for (sizes_of s) (id_of s) s (encode node place file padding key row)
-  place_filled {u = u} {w = w} read ids marks size record-is =
-      let made : w ≡ tab (record_length z) (coded_record z (key_vector key (id_of s)) file padding (at row)) = rw ids at record-is in
-      put_written (record_length z) start _ u (size ∙ lens) (omega (arith, part_fits, ap length marks ∙ length_marks _ s)) made
-      ∙ ap₂ (λ (from : ℕ) (d : List ℕ). put (record_length z) from (coded_record z (key_vector key (id_of s)) file padding (at row)) d) starts marks
-      ∙ encode_effect z s node place file padding key row
-      ∙ ap (λ (x : Sizes). effect_for x (id_of s) s (encode node place file padding key row)) read
+  -- the steps of the code: the sizes read, the marks set, the block written to its part ..
+  module _ {u b : List ℕ} {j k : ℕ} (marks : u ≡ with_marks (over (place_number z node place) 1 (λ i. true) (mark_at s)) s) (wide : j ≡ block_length z)
+      (size : k ≡ len) (blocks : b ≡ tab (block_length z) (coded z file padding (at row))) where
+    abbrev of : ℕ → ℕ
+    of = coded z file padding (at row)
+
+    fits : start + record_length z ≤ length u
+    fits = omega (arith, part_fits, lens, ap length marks ∙ length_marks _ s)
+
+    put_is : put_mid start j u b ≡ put (block_length z) start of u
+    put_is = put_written (block_length z) start of u wide (omega (arith, fits)) blocks
+
+    fits_still : start + record_length z ≤ length (put_mid start j u b)
+    fits_still = omega (arith, fits, ap length put_is ∙ length_put (block_length z) start of u)
+
+    pub record_long : length (mid_of start k (put_mid start j u b)) ≡ record_length z
+    record_long = length_part start k _ (omega (arith, fits_still, size, lens)) ∙ size ∙ lens
+
+    front : take (block_length z) (mid_of start k (put_mid start j u b)) ≡ tab (block_length z) of
+    front = rw put_is (front_part (block_length z) k start of u (omega (arith, size, lens)) (omega (arith, fits, size, lens)))
+
+    -- .. and the tags behind it
+    pub place_filled : {i w : List ℕ} → z ≡ sizes_of s → i ≡ id_of s → w ≡ tagged z key i (take (block_length z) (mid_of start k (put_mid start j u b)))
+        → put_mid start k (put_mid start j u b) w ≡ effect_for (sizes_of s) (id_of s) s (encode node place file padding key row)
+    place_filled {i} {w} read ids tags-are =
+        let whole : ℕ → ℕ = coded_record z (key_vector key (id_of s)) file padding (at row) in
+        let made : w ≡ tab (record_length z) whole = rw ids at (tags-are ∙ record_written z file padding row key i refl front refl) in
+        put_written (record_length z) start whole _ (size ∙ lens) fits_still made
+        ∙ ap (put (record_length z) start whole) put_is
+        ∙ put_over (record_length z) (block_length z) start whole of u (omega arith) fits
+        ∙ ap₂ (λ (from : ℕ) (d : List ℕ). put (record_length z) from whole d) starts marks
+        ∙ encode_effect z s node place file padding key row
+        ∙ ap (λ (x : Sizes). effect_for x (id_of s) s (encode node place file padding key row)) read

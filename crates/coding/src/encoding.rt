@@ -1,5 +1,5 @@
 // Encode: one place is filled from the source blocks.
-ghost use Rattle.std.specs.Prelude.{◌≡◌, false, ℕ, ◌≤◌, length, take};
+ghost use Rattle.std.specs.Prelude.{◌≡◌, false, ℕ, ◌++◌, ◌≤◌, length, take};
 ghost use Rattle.lists.specs.Lists.{at, tab};
 ghost use Rattle.answer.specs.Refusals.{Passed};
 ghost use Rattle.sizes.specs.Sizes.{sizes_outside};
@@ -7,7 +7,7 @@ ghost use Rattle.sizes.specs.Lengths.{block_length, record_length, file_length, 
 ghost use Rattle.vector.specs.Vectors.{product};
 ghost use Rattle.tag.specs.KeyVector.{key_vector};
 ghost use Rattle.archive.specs.Layout.{sizes_of, id_of};
-ghost use Rattle.archive.specs.Blocks.{coded, coded_record};
+ghost use Rattle.archive.specs.Blocks.{coded};
 ghost use Rattle.archive.specs.Calls as Calls;
 ghost use Rattle.archive.specs.Calls.{archive_answer, effect_for, archive_after};
 
@@ -15,7 +15,6 @@ use answer::Refusal;
 use archive::{bad_archive, id_in, marked, set_marks, sizes_in};
 use field::Tables;
 use keystream::Key;
-use linear::Row;
 use sizes::{Sizes, record_length, record_start};
 use tag::Id;
 
@@ -89,29 +88,15 @@ fn write_tags(tables: &Tables, tag_key: Key, id: Id, block: &[u8], tags: &mut [u
     }
 }
 
-// The block, and its tags behind it.
-fn write_record(
-    z: Sizes,
-    file: &[u8],
-    padding: &[u8],
-    row: Row,
-    tag_key: Key,
-    id: Id,
-    out: &mut [u8],
-)
-    requires { (sizes_outside z ≡ false)
-        × (length file.now ≡ file_length z)
-        × (length padding.now ≡ padding_length z)
-        × (length out.old ≡ record_length z) }
-    ensures { let file = file.entry.now in
-        let padding = padding.entry.now in
-        out.new
-        ≡ tab (record_length z) (coded_record z (key_vector tag_key id) file padding (at (take z.m row.bytes))) }
+// The tags of the block of a record, behind it.
+fn tag_record(tables: &Tables, z: Sizes, tag_key: Key, id: Id, out: &mut [u8])
+    requires { (sizes_outside z ≡ false) × (length out.old ≡ record_length z) }
+    ensures { let block = take (block_length z) out.old in
+        let tag : ℕ → ℕ = λ k. product (length block) (at block) (key_vector tag_key id k) in
+        out.new ≡ block ++ tab z.tags tag }
 {
-    let tables = Tables::new();
     let (block, tags) = out.split_at_mut(z.n + z.m);
-    write_block(&tables, z, file, padding, &row.bytes[..z.m], block);
-    write_tags(&tables, tag_key, id, block, tags);
+    write_tags(tables, tag_key, id, block, tags);
 }
 
 // The mark, the block and its tags.
@@ -131,14 +116,17 @@ fn fill_place(
         let row = row.entry.now in
         archive.new ≡ effect_for (sizes_of s) (id_of s) s (Calls.encode node place file padding tag_key row) }
 {
+    let tables = Tables::new();
     let z = sizes_in(archive);
     let k = node * z.places + place;
     let id = id_in(archive);
     let kept = linear::row_from(row);
     set_marks(archive, k, 1, true);
     let start = record_start(z, k);
+    let block = &mut archive[start..start + (z.n + z.m)];
+    write_block(&tables, z, file, padding, &kept.bytes[..z.m], block);
     let record = &mut archive[start..start + record_length(z)];
-    write_record(z, file, padding, kept, tag_key, id, record);
+    tag_record(&tables, z, tag_key, id, record);
 }
 
 // Fills a place of a node (the scheme: box) with the source blocks combined by a row, and the tags of that block.

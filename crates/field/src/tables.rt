@@ -10,7 +10,7 @@ use super::factor;
 const LOGS_START: usize = 510;
 
 // The powers twice in a row, so that the sum of two logarithms is an index, then the logarithms.
-#[derive(Drop)]
+#[derive(Clone, Copy)]
 pub struct Tables {
     entries: [u8; 766],
     ghost filled: { FieldTables entries },

@@ -62,7 +62,7 @@ fn copy_node(archive: &mut [u8], share: &[u8], node: usize)
     copy_marks(archive, share, k, z.places);
     let start = sizes::record_start(z, k);
     let len = z.places * sizes::record_length(z);
-    archive[start..start + len].copy_from_slice(&share[start..start + len]);
+    lists::copy(&share[start..start + len], &mut archive[start..start + len]);
 }
 
 // Puts a node of a share into an archive where the node is empty.

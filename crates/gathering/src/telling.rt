@@ -73,7 +73,7 @@ fn write_row(archive: &[u8], node: usize, place: usize, row: &mut [u8])
         return;
     }
     let start = sizes::record_start(z, k) + z.n;
-    row.copy_from_slice(&archive[start..start + z.m]);
+    lists::copy(&archive[start..start + z.m], row);
 }
 
 // The rows of a node's places.

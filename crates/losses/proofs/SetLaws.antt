@@ -1,6 +1,6 @@
 -- Sets of nodes as code makes and counts them; all of them in a row, their order, and how many have one size: computed tests, and what they
 -- say. Assumes nothing.
-use Prim.Native.Nat.{ℕ, ◌-◌, ◌^◌, ◌<◌, ◌≤◌}
+use Prim.Native.Nat.{ℕ, ◌+◌, ◌-◌, ◌/◌, ◌%◌, ◌^◌, ◌<◌, ◌≤◌}
 use mathlib.Core.Path.{◌≡◌, refl, sym, ap, ◌∙◌}
 use mathlib.Core.Bool.{Bool, true, false, true≢false}
 use native.Mathlib.Omega.{arith}
@@ -9,10 +9,11 @@ use lib.Dec.{T, eqb, leb, ltb, eqb→eq, leb→le}
 use lib.ListN.{length}
 use Rattle.lists.specs.Lists.{pick, how_many, filtered}
 use Rattle.lists.proofs.AllLaws.{all, all_at, told}
+use Rattle.lists.proofs.CountLaws.{how_many_more}
 use Rattle.lists.proofs.FilterLaws.{length_filtered}
 use Rattle.sizes.specs.declared.Sizes.{Sizes}
 use Rattle.bits.specs.Fields.{number}
-use Rattle.bits.proofs.NumberLaws.{number_low}
+use Rattle.bits.proofs.NumberLaws.{number_low, bit_odd}
 use Rattle.archive.specs.Losses.{in_set, nodes_in, SetOf, before}
 use Rattle.losses.specs.PrivateSets.{set_at, sized, Decides}
 
@@ -64,6 +65,9 @@ set_is x node e q = e ∙ ap (number (in_set (63 - x))) q
 pub set_low : (x : ℕ) → set_at x < 64
 unfolding set_at
 set_low x = number_low (in_set (63 - x)) 6
+
+pub counted_more : (set node : ℕ) {count : ℕ} → count ≡ how_many node (in_set set) → count + set / 2 ^ node % 2 ≡ how_many (node + 1) (in_set set)
+counted_more set node e = omega (arith, e, how_many_more node (in_set set), bit_odd (set / 2 ^ node))
 
 pub nodes_counted : (set node : ℕ) {count : ℕ} → count ≡ how_many node (in_set set) → node ≡ 8 → count ≡ length (nodes_in set)
 unfolding nodes_in

@@ -26,7 +26,7 @@ fn stays_filled(filled: [bool; 48], z: Sizes, set: usize, k: usize) -> bool
     requires { (sizes_outside z ≡ false) × (k < 48) }
     ensures { result ≡ pick (in_set set (k / z.places)) false (offered filled k) }
 {
-    !in_set(set, k / z.places) && filled[k]
+    filled[k] && !in_set(set, k / z.places)
 }
 
 // The marks of the places that remain when the nodes of a set are lost.

@@ -18,7 +18,7 @@ pub fn in_set(set: usize, node: usize) -> bool
 fn size_of(set: usize) -> usize
     ensures { result ≡ length (nodes_in set) }
 {
-    (0..8).filter(|node| in_set(set, *node)).count()
+    (0..8usize).fold(0, |count, node| count + (set >> node) % 2)
 }
 
 // Whether a set is one of k of so many nodes.

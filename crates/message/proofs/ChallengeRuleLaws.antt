@@ -30,11 +30,19 @@ fall_same n f g e = any_same (n - 1) _ _ (λ i h. rw (e i (omega arith), e (i + 
 -- ---- a challenge out of rule
 
 module _ (node : ℕ) (places : List ℕ) where
-  count_outside : outside 1 8 (length places) ≡ true → out_of_rule node places ≡ true
+  pub count_outside : outside 1 8 (length places) ≡ true → out_of_rule node places ≡ true
   unfolding out_of_rule
   count_outside e = any_there _ _ (any_here _ _ e)
 
-  -- with neither too few nor too many places, none above 7
+  -- with neither too few nor too many places
+  pub tests_apart : outside 1 8 (length places) ≡ false
+      → ((ltb 5 node || any_below (length places) (λ j. ltb 7 (at places j))) || any_fall (at places) (length places)) ≡ out_of_rule node places
+  unfolding out_of_rule any_of
+  tests_apart few =
+      rw few
+      (any_of_lem (ltb 5 node) (any_below (length places) (λ j. ltb 7 (at places j)) ∷ any_fall (at places) (length places) ∷ []))
+
+  -- and none above 7
   node_or_falls : 1 ≤ length places → length places ≤ 8 → any_below (length places) (λ j. ltb 7 (at places j)) ≡ false
       → out_of_rule node places ≡ (ltb 5 node || any_fall (at places) (length places))
   unfolding out_of_rule any_of

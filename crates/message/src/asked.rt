@@ -12,11 +12,19 @@ use sizes::Sizes;
 use std::marker::Model;
 
 // The place of item j of a message.
-fn place_in(message: &[u8], j: usize) -> usize
+pub fn place_in(message: &[u8], j: usize) -> usize
     requires { (j < 8) × (challenge_bits (j + 1) ≤ 8 * length message.now) }
     ensures { result ≡ field_at message.now (challenge_bits j) 3 }
 {
     bits::read_field(message, 11 * (j + 1), 3)
+}
+
+// The coefficient of item j of a message.
+pub fn coefficient_in(message: &[u8], j: usize) -> u8
+    requires { (j < 8) × (challenge_bits (j + 1) ≤ 8 * length message.now) }
+    ensures { result ≡ field_at message.now (challenge_bits j + 3) 8 }
+{
+    (bits::read_field(message, 11 * (j + 1) + 3, 8) % 256) as u8
 }
 
 // Whether a place in a message of so many items is not above the one before it: `any_fall` of fields of bits, which no slice lends.
@@ -30,7 +38,7 @@ fn any_fall_in(message: &[u8], count: usize) -> bool
 }
 
 // Whether a message is no challenge.
-fn malformed(message: &[u8]) -> bool
+pub fn malformed(message: &[u8]) -> bool
     ensures { result ≡ malformed_challenge message.now }
 {
     if message.len() < 2 {
@@ -103,7 +111,7 @@ impl<'a> ChallengeMessage<'a> {
         requires { j < length self.now.places }
         ensures { result ≡ at self.now.coefficients j }
     {
-        (bits::read_field(self.bytes, 11 * (j + 1) + 3, 8) % 256) as u8
+        coefficient_in(self.bytes, j)
     }
 
     // Whether it names a node or a place that is not there.

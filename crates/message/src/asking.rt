@@ -28,11 +28,14 @@ fn any_fall(places: &[u8]) -> bool
     places.windows(2).any(|pair| pair[1] <= pair[0])
 }
 
-// With `|`, here and in `asked::malformed`, as in most checks: the tests then stand side by side as in the rule.
+// The number of places is tested first: a list of more than a challenge has is not gone over, however long it is.
 fn out_of_rule(node: usize, places: &[u8]) -> bool
     ensures { result ≡ out_of_rule node places.now }
 {
-    (5 < node) | answer::outside(1, 8, places.len()) | any_high(places) | any_fall(places)
+    if answer::outside(1, 8, places.len()) {
+        return true;
+    }
+    (5 < node) | any_high(places) | any_fall(places)
 }
 
 // The first refusal of Challenge.

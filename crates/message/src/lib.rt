@@ -8,7 +8,7 @@ mod unmasking;
 
 ghost use Rattle.message.specs.Laws.{Unmasks};
 
-pub use asked::ChallengeMessage;
+pub use asked::{ChallengeMessage, coefficient_in, malformed, place_in};
 pub use asking::challenge;
 pub use response::head_byte;
 pub use unmasking::unmask;

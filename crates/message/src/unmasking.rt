@@ -51,7 +51,7 @@ fn unmask_into(rows: &MaskRows, response: &[u8], out: &mut [u8])
         out.new ≡ tab (rows.n - 2) (unmasked rows.n rows.id rows.key response) }
 {
     let n = rows.n;
-    out.copy_from_slice(&response[1..n - 1]);
+    lists::copy(&response[1..n - 1], out);
     let seed = Seed::try_from(&response[n - 1..n + sizes::SUM_PAST_N]).unwrap();
     rows.add_mask(seed, out);
 }

@@ -1,5 +1,5 @@
 // The greedy choice among five rows of two elements, each behind a byte that is no element. The third is twice the second.
-use choice::Rows;
+use choice::{Candidates, Rows};
 use std::io;
 
 const TABLE: [u8; 15] = [
@@ -7,7 +7,12 @@ const TABLE: [u8; 15] = [
 ];
 
 // How many rows are taken, how many candidates were consulted, the numbers of two rows, and their elements.
-fn chosen(rt: &impl Print, label: &str, expected: &[u8], candidates: [bool; 48]) -> io::Result<()> {
+fn chosen(
+    rt: &impl Print,
+    label: &str,
+    expected: &[u8],
+    candidates: impl Candidates,
+) -> io::Result<()> {
     let rows = Rows {
         bytes: &TABLE,
         start: 1,
@@ -35,13 +40,13 @@ fn chosen(rt: &impl Print, label: &str, expected: &[u8], candidates: [bool; 48])
 }
 
 pub fn run(rt: &impl Print) -> io::Result<()> {
-    let mut candidates = [true; 48];
     chosen(
         rt,
         "Choice among five rows",
         &[2, 4, 1, 3, 2, 3, 1, 0],
-        candidates,
+        [1u8; 48],
     )?;
+    let mut candidates = [true; 48];
     candidates[1] = false;
     chosen(
         rt,
@@ -57,5 +62,5 @@ pub fn run(rt: &impl Print) -> io::Result<()> {
         &[1, 2, 3, 0, 1, 0, 0, 0],
         candidates,
     )?;
-    chosen(rt, "No candidate", &[0, 0, 0, 0, 0, 0, 0, 0], [false; 48])
+    chosen(rt, "No candidate", &[0, 0, 0, 0, 0, 0, 0, 0], [0u8; 48])
 }

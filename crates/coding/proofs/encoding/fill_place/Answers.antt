@@ -1,9 +1,11 @@
 use mathlib.Core.Path.{refl, ◌∙◌}
 use native.Mathlib.Omega.{arith}
+use lib.Seq.{length-take-le}
+use Prim.Native.Nat.{◌+◌, ◌-◌}
 use Rattle.sizes.proofs.SizeLaws.{not_sizes_outside}
 use Rattle.linear.proofs.KeptLaws.{kept_front}
-use Rattle.coding.proofs.CombinedLaws.{part_long}
-use Rattle.coding.proofs.EncodeLaws.{encodable, part_fits, place_filled}
+use Rattle.lists.proofs.SliceLaws.{length_part}
+use Rattle.coding.proofs.EncodeLaws.{encodable, part_fits, record_long, place_filled}
 use Rattle.coding.proofs.encoding.fill_place.Goals as goal
 
 pub sizes_in-z-requires : goal.sizes_in-z-requires
@@ -36,6 +38,19 @@ record_start-start-requires c =
 pub record_length-requires : goal.record_length-requires
 record_length-requires c = not_sizes_outside _ (encodable _ _ _ _ _ _ _ c.sizes_in-z.ensures c.requires).sizes
 
+pub overflow_add-block-2 : goal.overflow_add-block-2
+overflow_add-block-2 c =
+    let ok = encodable _ _ _ _ _ _ _ c.sizes_in-z.ensures c.requires in
+    omega (arith, ok.fits, c.record_start-start.ensures)
+
+pub overflow_add-block : goal.overflow_add-block
+overflow_add-block c = omega (arith, (encodable _ _ _ _ _ _ _ c.sizes_in-z.ensures c.requires).sizes)
+
+pub slice_bounds-block-end : goal.slice_bounds-block-end
+slice_bounds-block-end c =
+    let ok = encodable _ _ _ _ _ _ _ c.sizes_in-z.ensures c.requires in
+    omega (arith, ok.fits, c.record_start-start.ensures)
+
 pub overflow_add-record : goal.overflow_add-record
 overflow_add-record c =
     let ok = encodable _ _ _ _ _ _ _ c.sizes_in-z.ensures c.requires in
@@ -46,16 +61,29 @@ slice_bounds-record-end c =
     let ok = encodable _ _ _ _ _ _ _ c.sizes_in-z.ensures c.requires in
     omega (arith, part_fits _ _ _ _ _ _ _ _ ok c.record_start-start.ensures c.record_length.ensures.0)
 
-pub write_record-requires : goal.write_record-requires
-write_record-requires c =
+pub shared_ref_as_front-write_block : goal.shared_ref_as_front-write_block
+shared_ref_as_front-write_block c = omega (arith, (encodable _ _ _ _ _ _ _ c.sizes_in-z.ensures c.requires).sizes.m_high)
+
+pub write_block-requires : goal.write_block-requires
+write_block-requires c =
     let ok = encodable _ _ _ _ _ _ _ c.sizes_in-z.ensures c.requires in
-    let fits = part_fits _ _ _ _ _ _ _ _ ok c.record_start-start.ensures c.record_length.ensures.0 in
-    let long = part_long c.record_start-start.result c.record_length.result _ _ refl (omega (arith, fits)) ∙ c.record_length.ensures.0 in
-    (not_sizes_outside _ ok.sizes, ok.file_length_lem, ok.padding_length_lem, long)
+    let start = c.record_start-start.result in
+    let z = c.sizes_in-z.result in
+    let kept = length-take-le z.m c.row_from-kept.result.bytes (omega (arith, ok.sizes.m_high)) in
+    let part = length_part start (start + (z.n + z.m) - start) c.set_marks.new.s (omega (arith, ok.fits, c.record_start-start.ensures)) in
+    (not_sizes_outside _ ok.sizes, ok.file_length_lem, ok.padding_length_lem, kept, part ∙ omega arith)
+
+pub tag_record-requires : goal.tag_record-requires
+tag_record-requires c =
+    let ok = encodable _ _ _ _ _ _ _ c.sizes_in-z.ensures c.requires in
+    let block = rw (kept_front c.args.row.now _ ok.row_length ok.sizes.m_high c.row_from-kept.ensures) at c.write_block.ensures in (
+      not_sizes_outside _ ok.sizes,
+      record_long _ _ _ _ _ _ _ _ ok c.record_start-start.ensures c.record_length.ensures.0 c.set_marks.ensures (omega arith) (omega arith) block,
+    )
 
 pub returns : goal.returns
 returns c =
     let ok = encodable _ _ _ _ _ _ _ c.sizes_in-z.ensures c.requires in
+    let block = rw (kept_front c.args.row.now _ ok.row_length ok.sizes.m_high c.row_from-kept.ensures) at c.write_block.ensures in
     place_filled _ _ _ _ _ _ _ _ ok c.record_start-start.ensures c.record_length.ensures.0
-    c.sizes_in-z.ensures c.id_in-id.ensures c.set_marks.ensures (omega arith)
-    (rw (kept_front c.args.row.now _ ok.row_length ok.sizes.m_high c.row_from-kept.ensures) at c.write_record.ensures)
+    c.set_marks.ensures (omega arith) (omega arith) block c.sizes_in-z.ensures c.id_in-id.ensures c.tag_record.ensures

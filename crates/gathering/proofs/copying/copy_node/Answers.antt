@@ -36,13 +36,13 @@ pub overflow_add-start : goal.overflow_add-start
 overflow_add-start c =
     omega (arith, share_fits _ _ _ c.requires c.sizes_in-z.ensures c.record_start-start.ensures c.record_length.ensures.0)
 
-pub slice_bounds-copy_from_slice-end : goal.slice_bounds-copy_from_slice-end
-slice_bounds-copy_from_slice-end c =
-    omega (arith, records_fit _ _ _ c.requires c.sizes_in-z.ensures c.record_start-start.ensures c.record_length.ensures.0 _ c.copy_marks.ensures)
-
-pub slice_bounds-copy_from_slice-end-2 : goal.slice_bounds-copy_from_slice-end-2
-slice_bounds-copy_from_slice-end-2 c =
+pub slice_bounds-copy-end : goal.slice_bounds-copy-end
+slice_bounds-copy-end c =
     omega (arith, share_fits _ _ _ c.requires c.sizes_in-z.ensures c.record_start-start.ensures c.record_length.ensures.0)
+
+pub slice_bounds-copy-end-2 : goal.slice_bounds-copy-end-2
+slice_bounds-copy-end-2 c =
+    omega (arith, records_fit _ _ _ c.requires c.sizes_in-z.ensures c.record_start-start.ensures c.record_length.ensures.0 _ c.copy_marks.ensures)
 
 pub returns : goal.returns
 returns c =
@@ -52,4 +52,4 @@ returns c =
     let len = c.record_length.ensures.0 in
     node_gathered _ _ _ done read starts len c.copy_marks.ensures
     (put_copied _ _ c.record_start-start.result _ _ (omega arith) (omega arith) (records_fit _ _ _ done read starts len _ c.copy_marks.ensures)
-    (share_fits _ _ _ done read starts len) c.copy_from_slice.ensures.after)
+    (share_fits _ _ _ done read starts len) c.copy.ensures)

@@ -41,8 +41,8 @@ overflow_add-start-2 c =
     let p = c.requires in
     omega (arith, row_in_lem _ _ _ c.sizes_in-z.ensures p.0 p.1 p.2)
 
-pub slice_bounds-copy_from_slice-end : goal.slice_bounds-copy_from_slice-end
-slice_bounds-copy_from_slice-end c =
+pub slice_bounds-copy-end : goal.slice_bounds-copy-end
+slice_bounds-copy-end c =
     let p = c.requires in
     omega (arith, row_in_lem _ _ _ c.sizes_in-z.ensures p.0 p.1 p.2)
 
@@ -55,4 +55,4 @@ pub returns : goal.returns
 returns c =
     let p = c.requires in
     row_stored _ _ _ c.sizes_in-z.ensures (sym c.marked.ensures ∙ c.if-not-marked.false) c.record_start.ensures
-    (tab_copied _ _ _ (omega arith) (omega (arith, row_in_lem _ _ _ c.sizes_in-z.ensures p.0 p.1 p.2)) c.copy_from_slice.ensures.after)
+    (tab_copied _ _ _ (omega arith) (omega (arith, row_in_lem _ _ _ c.sizes_in-z.ensures p.0 p.1 p.2)) c.copy.ensures)

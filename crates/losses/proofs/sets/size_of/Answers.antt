@@ -1,18 +1,27 @@
-use mathlib.Core.Path.{refl, ◌∙◌}
+use Prim.Native.Nat.{ℕ, ◌≤◌}
+use mathlib.Core.Path.{◌≡◌, refl, sym}
+use mathlib.Core.Bool.{Bool}
+use native.Mathlib.Omega.{arith}
 use borrow.Author.Rules.{rules}
-use borrow.Author.Tests.{tests}
-use Rattle.std.proofs.lemmas.Iterator.{YieldsList-from_range}
-use Rattle.std.proofs.lemmas.Iterator.Consumers.{YieldsList-from_filter, count_from_yields_List}
-use Rattle.lists.proofs.RangeLaws.{count_from_zero}
+use Rattle.std.proofs.iter.Serving.{serving}
+use Rattle.lists.specs.Lists.{how_many}
+use Rattle.lists.proofs.CountLaws.{how_many_zero, how_many_most}
+use Rattle.lists.proofs.RangeLaws.{fold_may, fold_ends}
 use Rattle.archive.specs.Losses.{in_set}
-use Rattle.losses.proofs.SetLaws.{nodes_counted}
+use Rattle.losses.proofs.SetLaws.{counted_more, nodes_counted}
 use Rattle.losses.proofs.sets.size_of.Goals as goal
+
+pub fold-requires-clause-callable : goal.fold-requires-clause-callable
+fold-requires-clause-callable c =
+    let test : ℕ → Bool = in_set c.args.set in
+    fold_may _ _ (λ i y. y ≡ how_many i test) 8 (λ i y z q l h called. search (rules, counted_more)) _ _ refl (omega arith) (sym (how_many_zero test))
+    (λ i y l h.
+    let small : y ≤ 8 = omega (arith, h, how_many_most i test) in
+    grind (serving, small))
 
 pub returns : goal.returns
 returns c =
-    let test = in_set c.args.set in
+    let test : ℕ → Bool = in_set c.args.set in
     nodes_counted c.args.set 8
-    (count_from_yields_List c.filter.result _ c.count.ensures.ran
-    (YieldsList-from_filter _ test (YieldsList-from_range 0 8 8 c.filter.ensures.source refl) c.filter.ensures.closure (λ x b q k. search (rules, tests)))
-    ∙ count_from_zero 8 test)
+    (fold_ends _ _ (λ i y. y ≡ how_many i test) 8 (λ i y z q l h called. search (rules, counted_more)) _ _ refl (omega arith) (sym (how_many_zero test)) _ c.fold.ensures.ran)
     refl

@@ -7,9 +7,8 @@ use Rattle.lists.proofs.SliceLaws.{tab_copied}
 use Rattle.message.proofs.UnmaskAnswerLaws.{seed_part, mask_off}
 use Rattle.message.proofs.unmasking.unmask_into.Goals as goal
 
-pub copy_from_slice-requires : goal.copy_from_slice-requires
-copy_from_slice-requires c =
-    c.requires.1 ∙ omega (arith, c.args.rows.now.n_low, length_part 1 (c.args.rows.now.n - 1) c.args.response.now (omega arith))
+pub copy-requires : goal.copy-requires
+copy-requires c = omega (arith, c.requires.1, c.args.rows.now.n_low, length_part 1 (c.args.rows.now.n - 1) c.args.response.now (omega arith))
 
 pub unwrap-seed-requires : goal.unwrap-seed-requires
 unwrap-seed-requires c =
@@ -20,5 +19,5 @@ pub returns : goal.returns
 returns c =
     let n = c.args.rows.now.n in
     let seed = array_is _ _ _ _ c.try_from.ensures.1 c.unwrap-seed.ensures ∙ seed_part n (n + 10 - (n - 1)) _ (omega arith) in
-    let copied = tab_copied (n - 2) 1 c.args.response.now {m = n - 1 - 1} (omega arith) (omega arith) c.copy_from_slice.ensures.after in
+    let copied = tab_copied (n - 2) 1 c.args.response.now {m = n - 1 - 1} (omega arith) (omega arith) c.copy.ensures in
     mask_off _ _ _ _ seed copied c.add_mask.ensures

@@ -14,24 +14,24 @@ zeros : (p i : ℕ) → p < 16 → i < 16 → cells (replicate 16 (replicate 16 
 zeros p i h l = ap (λ (r : List ℕ). at r i) (get_or-replicate 16 p (replicate 16 0) [] h) ∙ get_or-replicate 16 i 0 0 l
 
 pub loop-k-init : goal.loop-k-init
-loop-k-init c =
+loop-k-init g c =
     let width = c.args.self.now.standing.1 in
     (omega arith, refl, choice_none _ _ _ _ _ refl refl (λ p i h l. zeros p i (omega (arith, width)) (omega (arith, width))))
 
 pub returns-then-c-self : goal.returns-then-c-self
-returns-then-c-self c =
+returns-then-c-self g c =
     let l = c.loop-k in
-    record { end = l.k; there = omega (arith, l.invariant.1); choice = l.invariant.2.choice; ended = inr c.if-c-self.true }
+    record { end = l.k; there = omega (arith, l.invariant.1); choice = rw c.marks-marks.ensures at l.invariant.2.choice; ended = inr c.if-c-self.true }
 
 pub consult-c-requires : goal.consult-c-requires
-consult-c-requires c =
+consult-c-requires g c =
     let l = c.loop-k in
     (omega (arith, l.invariant.1), omega (arith, l.invariant.2.choice.fits), l.invariant.2)
 
 pub loop-k-preserved : goal.loop-k-preserved
-loop-k-preserved c = let l = c.loop-k in (omega arith, l.invariant.1, c.consult-c.ensures)
+loop-k-preserved g c = let l = c.loop-k in (omega arith, l.invariant.1, c.consult-c.ensures)
 
 pub returns : goal.returns
-returns c =
+returns g c =
     let l = c.loop-k in
-    record { end = l.k; there = omega (arith, l.invariant.1); choice = l.invariant.2.choice; ended = inl (omega (arith, l.invariant.1)) }
+    record { end = l.k; there = omega (arith, l.invariant.1); choice = rw c.marks-marks.ensures at l.invariant.2.choice; ended = inl (omega (arith, l.invariant.1)) }

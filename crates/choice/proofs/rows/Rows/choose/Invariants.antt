@@ -5,5 +5,5 @@ use Rattle.choice.proofs.rows.Rows.choose.Given as goal
 
 -- The loop has chosen among the first k rows. Assumes nothing.
 abbrev pub invariant-loop-k : goal.invariant-loop-k
-invariant-loop-k l =
-    (l.k ≤ l.k-end) × (l.k-end ≡ l.self.count) × Progress l.self.m (row_at l.self) (offered l.candidates) l.k l.reduced l.c
+invariant-loop-k g l =
+    (l.k ≤ l.k-end) × (l.k-end ≡ l.self.count) × Progress l.self.m (row_at l.self) (offered l.marks) l.k l.reduced l.c
