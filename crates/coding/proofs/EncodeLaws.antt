@@ -108,7 +108,7 @@ module _ (z : Sizes) (file padding row : List ℕ) where
       rw (p, source_padding i e l h))
 
   -- the file's combination, the padding's and the row
-  pub block_written : {front end last : List ℕ} → 2 ≤ z.n → length row ≡ z.m → ((i : ℕ) → at row i < 256) → front ≡ tab (z.n - 2) file_mixed
+  pub block_written : {front end last : List ℕ} → 2 ≤ z.n → length row ≡ z.m → ((i : ℕ) → i < z.m → at row i < 256) → front ≡ tab (z.n - 2) file_mixed
       → end ≡ tab 2 padding_mixed → last ≡ row → front ++ (end ++ last) ≡ tab (block_length z) (coded z file padding (at row))
   block_written {front} {end} {last} low long bytes files pads rows =
       let of : ℕ → ℕ = coded z file padding (at row) in
@@ -116,7 +116,7 @@ module _ (z : Sizes) (file padding row : List ℕ) where
       let behind : end ++ last ≡ tab (2 + z.m) (λ i. of (z.n - 2 + i)) =
       ap₂ (λ (x y : List ℕ). x ++ y) pads (rows ∙ sym (elements z.m row long))
       ∙ joined 2 z.m padding_mixed (at row) (λ i. of (z.n - 2 + i)) (λ e h. padding_coded e low h)
-      (λ i h. let q : z.n - 2 + (2 + i) ≡ z.n + i = omega arith in sym (coded_row z file padding (at row) i h (bytes i)) ∙ ap of (sym q)) in
+      (λ i h. let q : z.n - 2 + (2 + i) ≡ z.n + i = omega arith in sym (coded_row z file padding (at row) i h (bytes i h)) ∙ ap of (sym q)) in
       ap₂ (λ (x y : List ℕ). x ++ y) files behind
       ∙ joined (z.n - 2) (2 + z.m) file_mixed (λ i. of (z.n - 2 + i)) of file_coded (λ i h. refl)
       ∙ ap (λ (n : ℕ). tab n of) size

@@ -15,6 +15,7 @@ use answer::Refusal;
 use archive::{bad_archive, id_in, marked, set_marks, sizes_in};
 use field::Tables;
 use keystream::Key;
+use linear::Row;
 use sizes::{Sizes, record_length, record_start};
 use tag::Id;
 
@@ -56,24 +57,23 @@ fn encode_check(
 }
 
 // The source blocks combined by a row, and the row behind them.
-fn write_block(tables: &Tables, z: Sizes, file: &[u8], padding: &[u8], row: &[u8], block: &mut [u8])
+fn write_block(tables: &Tables, z: Sizes, file: &[u8], padding: &[u8], row: Row, block: &mut [u8])
     requires { (sizes_outside z ≡ false)
         × (length file.now ≡ file_length z)
         × (length padding.now ≡ padding_length z)
-        × (length row.now ≡ z.m)
         × (length block.old ≡ block_length z) }
     ensures { let file = file.entry.now in
         let padding = padding.entry.now in
-        let row = row.entry.now in
-        block.new ≡ tab (block_length z) (coded z file padding (at row)) }
+        block.new ≡ tab (block_length z) (coded z file padding (at (take z.m row.bytes))) }
 {
+    let elements = &row.bytes[..z.m];
     let (data, rest) = block.split_at_mut(z.n - 2);
     let (end, coefficients) = rest.split_at_mut(2);
     data.fill(0);
-    vector::combine(tables, z.m, row, 1, file, data);
+    vector::combine(tables, z.m, elements, 1, file, data);
     end.fill(0);
-    vector::combine(tables, z.m, row, 1, padding, end);
-    coefficients.copy_from_slice(row);
+    vector::combine(tables, z.m, elements, 1, padding, end);
+    coefficients.copy_from_slice(elements);
 }
 
 // The tags of a block.
@@ -124,7 +124,7 @@ fn fill_place(
     set_marks(archive, k, 1, true);
     let start = record_start(z, k);
     let block = &mut archive[start..start + (z.n + z.m)];
-    write_block(&tables, z, file, padding, &kept.bytes[..z.m], block);
+    write_block(&tables, z, file, padding, kept, block);
     let record = &mut archive[start..start + record_length(z)];
     tag_record(&tables, z, tag_key, id, record);
 }

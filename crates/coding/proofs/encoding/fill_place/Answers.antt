@@ -1,6 +1,5 @@
 use mathlib.Core.Path.{refl, ◌∙◌}
 use native.Mathlib.Omega.{arith}
-use lib.Seq.{length-take-le}
 use Prim.Native.Nat.{◌+◌, ◌-◌}
 use Rattle.sizes.proofs.SizeLaws.{not_sizes_outside}
 use Rattle.linear.proofs.KeptLaws.{kept_front}
@@ -61,17 +60,13 @@ slice_bounds-record-end c =
     let ok = encodable _ _ _ _ _ _ _ c.sizes_in-z.ensures c.requires in
     omega (arith, part_fits _ _ _ _ _ _ _ _ ok c.record_start-start.ensures c.record_length.ensures.0)
 
-pub shared_ref_as_front-write_block : goal.shared_ref_as_front-write_block
-shared_ref_as_front-write_block c = omega (arith, (encodable _ _ _ _ _ _ _ c.sizes_in-z.ensures c.requires).sizes.m_high)
-
 pub write_block-requires : goal.write_block-requires
 write_block-requires c =
     let ok = encodable _ _ _ _ _ _ _ c.sizes_in-z.ensures c.requires in
     let start = c.record_start-start.result in
     let z = c.sizes_in-z.result in
-    let kept = length-take-le z.m c.row_from-kept.result.bytes (omega (arith, ok.sizes.m_high)) in
     let part = length_part start (start + (z.n + z.m) - start) c.set_marks.new.s (omega (arith, ok.fits, c.record_start-start.ensures)) in
-    (not_sizes_outside _ ok.sizes, ok.file_length_lem, ok.padding_length_lem, kept, part ∙ omega arith)
+    (not_sizes_outside _ ok.sizes, ok.file_length_lem, ok.padding_length_lem, part ∙ omega arith)
 
 pub tag_record-requires : goal.tag_record-requires
 tag_record-requires c =
