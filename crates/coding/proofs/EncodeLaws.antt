@@ -160,6 +160,10 @@ tagged z key id block = block ++ tab z.tags (λ k. product (length block) (at bl
 
 -- ---- the archive
 
+-- a part of a record's length, wherever it stands
+pub record_part : (from k len : ℕ) (s : List ℕ) → from + k ≤ length s → k ≡ len → length (mid_of from (from + k - from) s) ≡ len
+record_part from k len s h e = length_part from (from + k - from) s (omega arith) ∙ omega (arith, e)
+
 -- the front of a part, after n values were put there
 front_part : (n len start : ℕ) (f : ℕ → ℕ) (u : List ℕ) → n ≤ len → start + len ≤ length u → take n (mid_of start len (put n start f u)) ≡ tab n f
 front_part n len start f u h fits =
@@ -206,9 +210,6 @@ module _ (z : Sizes) (s : List ℕ) (node place : ℕ) (file padding key row : L
 
     fits_still : start + record_length z ≤ length (put_mid start j u b)
     fits_still = omega (arith, fits, ap length put_is ∙ length_put (block_length z) start of u)
-
-    pub record_long : length (mid_of start k (put_mid start j u b)) ≡ record_length z
-    record_long = length_part start k _ (omega (arith, fits_still, size, lens)) ∙ size ∙ lens
 
     front : take (block_length z) (mid_of start k (put_mid start j u b)) ≡ tab (block_length z) of
     front = rw put_is (front_part (block_length z) k start of u (omega (arith, size, lens)) (omega (arith, fits, size, lens)))

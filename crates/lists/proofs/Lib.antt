@@ -4,6 +4,7 @@ pub mod CountLaws
 pub mod FilterLaws
 pub mod HoldLaws
 pub mod ListingLaws
+pub mod ReplaceLaws
 pub mod PutLaws
 pub mod PartLaws
 pub mod SliceLaws

@@ -16,25 +16,23 @@ use answer::Refusal;
 use archive::Records;
 use sets::{SETS, in_set, is_sized, set_at};
 use sizes::Sizes;
-use std::array;
 
 // The length of a list of sets: no k and no number of nodes has more.
 const LIST_LENGTH: usize = 20;
 
-// Whether place number k stays filled when the nodes of a set are lost.
-fn stays_filled(filled: [bool; 48], z: Sizes, set: usize, k: usize) -> bool
-    requires { (sizes_outside z ≡ false) × (k < 48) }
-    ensures { result ≡ pick (in_set set (k / z.places)) false (offered filled k) }
-{
-    filled[k] && !in_set(set, k / z.places)
-}
-
-// The marks of the places that remain when the nodes of a set are lost.
+// The marks of the places that remain when the nodes of a set are lost. By index, for the archive's places alone: made whole, as an array of 48,
+// the marks took up to half as long again where an archive has few.
 fn without(filled: [bool; 48], z: Sizes, set: usize) -> [bool; 48]
     requires { sizes_outside z ≡ false }
     ensures { (k : ℕ) → k < place_count z → offered result k ≡ pick (in_set set (k / z.places)) false (offered filled k) }
 {
-    array::from_fn(|k| stays_filled(filled, z, set, k))
+    let mut left = filled;
+    for k in 0..z.nodes * z.places {
+        if in_set(set, k / z.places) {
+            left[k] = false;
+        }
+    }
+    left
 }
 
 // Whether the file cannot be read without the nodes of a set. The rank is the number of rows taken; elimination also has, where that is too

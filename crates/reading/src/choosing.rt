@@ -1,8 +1,8 @@
 // The rows of an archive, by node and then place: which of them may be taken, those of filled places; which are; and the elimination of these.
-ghost use Rattle.std.specs.Prelude.{◌≡◌, false, ℕ, ◌<◌, ◌≤◌, length, ltb};
+ghost use Rattle.std.specs.Prelude.{◌≡◌, false, ℕ, ◌<◌, ◌≤◌, length};
 ghost use Rattle.sizes.specs.Sizes.{sizes_outside};
 ghost use Rattle.sizes.specs.Lengths.{header_length, place_count};
-ghost use Rattle.lists.specs.Lists.{pick, at};
+ghost use Rattle.lists.specs.Lists.{at};
 ghost use Rattle.linear.specs.PrivateElimination.{cells, Reduces};
 ghost use Rattle.choice.specs.PrivateChoice.{offered, listed_rows, WholeChoice};
 ghost use Rattle.archive.specs.Layout.{mark_at};
@@ -29,22 +29,13 @@ fn rows_in(records: Records<'_>) -> Rows<'_>
     }
 }
 
-// Whether place number k is among the first `count`, and filled.
-fn filled_among(archive: &[u8], count: usize, k: usize) -> bool
-    requires { (k < 48) × (header_length ≤ length archive.now) }
-    ensures { result ≡ pick (ltb k count) (mark_at archive.now k) false }
-{
-    k < count && archive::marked(archive, k)
-}
-
 // Which places are filled.
 pub fn marks(archive: &[u8], z: Sizes) -> [bool; 48]
     requires { (sizes_outside z ≡ false) × (header_length ≤ length archive.now) }
     ensures { let archive = archive.entry.now in
         ((k : ℕ) → k < place_count z → offered result k ≡ mark_at archive k) }
 {
-    let count = z.nodes * z.places;
-    array::from_fn(|k| filled_among(archive, count, k))
+    array::from_fn(|k| archive::marked(archive, k))
 }
 
 // The places taken among the candidates.
