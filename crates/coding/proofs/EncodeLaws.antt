@@ -196,7 +196,18 @@ module _ (z : Sizes) (s : List ℕ) (node place : ℕ) (file padding key row : L
   pub part_fits : start + len ≤ length s
   part_fits = omega (arith, ok.fits)
 
-  -- the steps of the code: the sizes read, the marks set, the block written to its part ..
+  -- the sizes read, the marks set, the record written to its part
+  pub place_filled : {i u w : List ℕ} {k : ℕ} → z ≡ sizes_of s → i ≡ id_of s → u ≡ with_marks (over (place_number z node place) 1 (λ i. true) (mark_at s)) s → k ≡ len
+      → w ≡ tab (record_length z) (coded_record z (key_vector key i) file padding (at row))
+      → put_mid start k u w ≡ effect_for (sizes_of s) (id_of s) s (encode node place file padding key row)
+  place_filled {u = u} {w = w} read ids marks size record-is =
+      let made : w ≡ tab (record_length z) (coded_record z (key_vector key (id_of s)) file padding (at row)) = rw ids at record-is in
+      put_written (record_length z) start _ u (size ∙ lens) (omega (arith, part_fits, ap length marks ∙ length_marks _ s)) made
+      ∙ ap₂ (λ (from : ℕ) (d : List ℕ). put (record_length z) from (coded_record z (key_vector key (id_of s)) file padding (at row)) d) starts marks
+      ∙ encode_effect z s node place file padding key row
+      ∙ ap (λ (x : Sizes). effect_for x (id_of s) s (encode node place file padding key row)) read
+
+  -- the steps of the code: the same, where the block was written there before ..
   module _ {u b : List ℕ} {j k : ℕ} (marks : u ≡ with_marks (over (place_number z node place) 1 (λ i. true) (mark_at s)) s) (wide : j ≡ block_length z)
       (size : k ≡ len) (blocks : b ≡ tab (block_length z) (coded z file padding (at row))) where
     abbrev of : ℕ → ℕ
@@ -215,14 +226,13 @@ module _ (z : Sizes) (s : List ℕ) (node place : ℕ) (file padding key row : L
     front = rw put_is (front_part (block_length z) k start of u (omega (arith, size, lens)) (omega (arith, fits, size, lens)))
 
     -- .. and the tags behind it
-    pub place_filled : {i w : List ℕ} → z ≡ sizes_of s → i ≡ id_of s → w ≡ tagged z key i (take (block_length z) (mid_of start k (put_mid start j u b)))
+    pub place_filled_in_parts : {i w : List ℕ} → z ≡ sizes_of s → i ≡ id_of s → w ≡ tagged z key i (take (block_length z) (mid_of start k (put_mid start j u b)))
         → put_mid start k (put_mid start j u b) w ≡ effect_for (sizes_of s) (id_of s) s (encode node place file padding key row)
-    place_filled {i} {w} read ids tags-are =
-        let whole : ℕ → ℕ = coded_record z (key_vector key (id_of s)) file padding (at row) in
-        let made : w ≡ tab (record_length z) whole = rw ids at (tags-are ∙ record_written z file padding row key i refl front refl) in
+    place_filled_in_parts {i} {w} read ids tags-are =
+        let whole : ℕ → ℕ = coded_record z (key_vector key i) file padding (at row) in
+        let made : w ≡ tab (record_length z) whole = tags-are ∙ record_written z file padding row key i refl front refl in
         put_written (record_length z) start whole _ (size ∙ lens) fits_still made
         ∙ ap (put (record_length z) start whole) put_is
         ∙ put_over (record_length z) (block_length z) start whole of u (omega arith) fits
-        ∙ ap₂ (λ (from : ℕ) (d : List ℕ). put (record_length z) from whole d) starts marks
-        ∙ encode_effect z s node place file padding key row
-        ∙ ap (λ (x : Sizes). effect_for x (id_of s) s (encode node place file padding key row)) read
+        ∙ sym (put_written (record_length z) start whole u (size ∙ lens) fits made)
+        ∙ place_filled read ids marks size made

@@ -4,7 +4,7 @@ use Prim.Native.Nat.{◌+◌, ◌-◌}
 use Rattle.sizes.proofs.SizeLaws.{not_sizes_outside}
 use Rattle.linear.proofs.KeptLaws.{kept_front}
 use Rattle.lists.proofs.SliceLaws.{length_part}
-use Rattle.coding.proofs.EncodeLaws.{encodable, part_fits, record_part, place_filled}
+use Rattle.coding.proofs.EncodeLaws.{encodable, part_fits, record_part, place_filled_in_parts}
 use Rattle.coding.proofs.encoding.fill_place.Goals as goal
 
 pub sizes_in-z-requires : goal.sizes_in-z-requires
@@ -78,5 +78,5 @@ pub returns : goal.returns
 returns c =
     let ok = encodable _ _ _ _ _ _ _ c.sizes_in-z.ensures c.requires in
     let block = rw (kept_front c.args.row.now _ ok.row_length ok.sizes.m_high c.row_from-kept.ensures) at c.write_block.ensures in
-    place_filled _ _ _ _ _ _ _ _ ok c.record_start-start.ensures c.record_length.ensures.0
+    place_filled_in_parts _ _ _ _ _ _ _ _ ok c.record_start-start.ensures c.record_length.ensures.0
     c.set_marks.ensures (omega arith) (omega arith) block c.sizes_in-z.ensures c.id_in-id.ensures c.tag_record.ensures
